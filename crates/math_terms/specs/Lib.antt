@@ -1,0 +1,6 @@
+pub mod Values
+pub mod Terms
+pub mod Meaning
+pub mod Descriptors
+pub mod Validity
+pub mod Plain

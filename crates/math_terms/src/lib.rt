@@ -1,0 +1,13 @@
+//! Mathematical terms: what the assertions of components are made of, with their values.
+#![tactic(auto)]
+
+mod descriptor;
+mod name;
+mod term;
+mod value;
+
+pub use descriptor::{Desc, Shape, Sort};
+pub use name::{Line, Name, NoMemory, RowName, TermError, VcName};
+pub use sqlite_items::{Boxed, Items};
+pub use term::{Formula, Term};
+pub use value::Value;
