@@ -2,6 +2,7 @@
 #![tactic(auto)]
 
 pub mod laws;
+pub mod listed;
 pub mod shelf;
 pub mod sink;
 pub mod source;
