@@ -1,5 +1,6 @@
 -- Decimal lines.
-use Rattle.std.specs.Prelude.{ℕ, ℤ, List, [], ◌∷◌, ◌++◌, signed_decimal}
+use Rattle.std.specs.Prelude.{ℕ, ℤ, List, [], ◌∷◌, ◌++◌}
+use Rattle.std.specs.Fmt.{signed_decimal}
 
 -- a number as decimal digits, with `-` before them where it is below 0, and LF
 abbrev pub line : ℤ → List ℕ

@@ -1,5 +1,5 @@
 -- What a run of the machine answers, and what its sink got.
-use Rattle.std.specs.Prelude.{◌≡◌, ◌≢◌, ℕ, ℤ, ◌≤◌, List, [], Option, Some, None, IsSome, IsSomeAnd, slice_get, false}
+use Rattle.std.specs.Prelude.{◌≡◌, ◌≢◌, ℕ, ℤ, ◌≤◌, List, [], Option, IsSome, IsSomeAnd, slice_get, false}
 use Rattle.edge_io.specs.Held.{Grew, GrewByPrefix}
 use Rattle.stack_machine.specs.declared.image.Image.{Image}
 use Rattle.stack_machine.specs.declared.image.Stop.{Stop}
@@ -9,11 +9,7 @@ use Rattle.stack_machine.specs.Lines.{lines}
 
 -- Main is a procedure without parameters and without a result.
 abbrev pub HasMain : Image → Type 0
-HasMain image = IsSomeProc (slice_get image.procs image.main)
-  where
-    IsSomeProc : Option _ → Type 0
-    IsSomeProc None = ⊥
-    IsSomeProc (Some p) = (p.given ≡ []) × (p.result ≡ false)
+HasMain image = IsSomeAnd (slice_get image.procs image.main) (λ p. (p.given ≡ []) × (p.result ≡ false))
 
 -- the machine is not stuck within so many steps
 abbrev pub NeverStuck : Image → List ℤ → ℕ → Type 0
