@@ -1,5 +1,7 @@
 //! Terms of the assertions, and formulas, which are terms of the sort of truth values.
 
+ghost use Rattle.std.specs.Prelude.{◌≡◌, IfOk};
+
 use crate::name::NoMemory;
 use sqlite_items::{Boxed, Items};
 use std::alloc::Global;
@@ -38,3 +40,122 @@ pub enum Term {
 
 /// A term that says something.
 pub type Formula = Term;
+
+impl Term {
+    /// A second term, equal to the first.
+    #[cycle(copy)]
+    pub fn copy(&self, alloc: Global) -> Result<Term, NoMemory>
+        ensures { IfOk result (λ t. t ≡ self.now) }
+    {
+        match self {
+            Term::Num(n) => Ok(Term::Num(*n)),
+            Term::Truth(b) => Ok(Term::Truth(*b)),
+            Term::MinInt => Ok(Term::MinInt),
+            Term::MaxInt => Ok(Term::MaxInt),
+            Term::Var(k) => Ok(Term::Var(*k)),
+            Term::Add(a, b) => {
+                let (a, b) = both(copy_boxed(alloc, a), copy_boxed(alloc, b))?;
+                Ok(Term::Add(a, b))
+            }
+            Term::Sub(a, b) => {
+                let (a, b) = both(copy_boxed(alloc, a), copy_boxed(alloc, b))?;
+                Ok(Term::Sub(a, b))
+            }
+            Term::Mul(a, b) => {
+                let (a, b) = both(copy_boxed(alloc, a), copy_boxed(alloc, b))?;
+                Ok(Term::Mul(a, b))
+            }
+            Term::Div(a, b) => {
+                let (a, b) = both(copy_boxed(alloc, a), copy_boxed(alloc, b))?;
+                Ok(Term::Div(a, b))
+            }
+            Term::Mod(a, b) => {
+                let (a, b) = both(copy_boxed(alloc, a), copy_boxed(alloc, b))?;
+                Ok(Term::Mod(a, b))
+            }
+            Term::Len(a) => Ok(Term::Len(copy_boxed(alloc, a)?)),
+            Term::Empty => Ok(Term::Empty),
+            Term::Single(a) => Ok(Term::Single(copy_boxed(alloc, a)?)),
+            Term::Cat(a, b) => {
+                let (a, b) = both(copy_boxed(alloc, a), copy_boxed(alloc, b))?;
+                Ok(Term::Cat(a, b))
+            }
+            Term::Reverse(a) => Ok(Term::Reverse(copy_boxed(alloc, a)?)),
+            Term::Part(i, j, a) => {
+                let i = copy_boxed(alloc, i)?;
+                let (j, a) = both(copy_boxed(alloc, j), copy_boxed(alloc, a))?;
+                Ok(Term::Part(i, j, a))
+            }
+            Term::Tuple(parts) => Ok(Term::Tuple(copy_terms(alloc, parts.as_slice())?)),
+            Term::Proj(k, a) => Ok(Term::Proj(*k, copy_boxed(alloc, a)?)),
+            Term::Eq(a, b) => {
+                let (a, b) = both(copy_boxed(alloc, a), copy_boxed(alloc, b))?;
+                Ok(Term::Eq(a, b))
+            }
+            Term::Less(a, b) => {
+                let (a, b) = both(copy_boxed(alloc, a), copy_boxed(alloc, b))?;
+                Ok(Term::Less(a, b))
+            }
+            Term::LessEq(a, b) => {
+                let (a, b) = both(copy_boxed(alloc, a), copy_boxed(alloc, b))?;
+                Ok(Term::LessEq(a, b))
+            }
+            Term::Not(a) => Ok(Term::Not(copy_boxed(alloc, a)?)),
+            Term::And(a, b) => {
+                let (a, b) = both(copy_boxed(alloc, a), copy_boxed(alloc, b))?;
+                Ok(Term::And(a, b))
+            }
+            Term::Or(a, b) => {
+                let (a, b) = both(copy_boxed(alloc, a), copy_boxed(alloc, b))?;
+                Ok(Term::Or(a, b))
+            }
+            Term::Implies(a, b) => {
+                let (a, b) = both(copy_boxed(alloc, a), copy_boxed(alloc, b))?;
+                Ok(Term::Implies(a, b))
+            }
+            Term::Initial(k, a) => Ok(Term::Initial(*k, copy_boxed(alloc, a)?)),
+        }
+    }
+}
+
+/// The terms of a slice once more, in their order.
+#[cycle(copy)]
+pub fn copy_terms(alloc: Global, terms: &[Term]) -> Result<Items<Term>, NoMemory>
+    ensures { IfOk result (λ ts. ts ≡ terms.now) }
+{
+    let mut out = Items::new(alloc);
+    for t in terms {
+        out.push(t.copy(alloc)?)?;
+    }
+    Ok(out)
+}
+
+/// A term on the heap.
+pub fn boxed(alloc: Global, t: Term) -> Result<Boxed<Term>, NoMemory>
+    ensures { IfOk result (λ b. b ≡ t) }
+{
+    Ok(Boxed::new(alloc, t)?)
+}
+
+#[cycle(copy)]
+fn copy_boxed(alloc: Global, a: &Boxed<Term>) -> Result<Boxed<Term>, NoMemory>
+    ensures { IfOk result (λ b. b ≡ a.now) }
+{
+    boxed(alloc, a.get().copy(alloc)?)
+}
+
+/// Both terms, where memory sufficed for both.
+pub(crate) fn both(
+    a: Result<Boxed<Term>, NoMemory>,
+    b: Result<Boxed<Term>, NoMemory>,
+) -> Result<(Boxed<Term>, Boxed<Term>), NoMemory>
+    ensures { IfOk result (λ p. (a ≡ Ok p.0) × (b ≡ Ok p.1)) }
+{
+    match a {
+        Ok(a) => match b {
+            Ok(b) => Ok((a, b)),
+            Err(e) => Err(e),
+        },
+        Err(e) => Err(e),
+    }
+}
