@@ -1,6 +1,6 @@
 //! Terms of the assertions, and formulas, which are terms of the sort of truth values.
 
-ghost use Rattle.std.specs.Prelude.{◌≡◌, IfOk};
+ghost use Rattle.std.specs.Prelude.{◌≡◌, ◌↔◌, IfOk, IsTrue};
 
 use crate::name::NoMemory;
 use sqlite_items::{Boxed, Items};
@@ -116,6 +116,121 @@ impl Term {
             Term::Initial(k, a) => Ok(Term::Initial(*k, copy_boxed(alloc, a)?)),
         }
     }
+
+    /// Whether two terms are equal, node by node.
+    #[cycle(same)]
+    pub fn same(&self, other: &Term) -> bool
+        ensures { IsTrue result ↔ (self.now ≡ other.now) }
+    {
+        match self {
+            Term::Num(m) => match other {
+                Term::Num(n) => m == n,
+                _ => false,
+            },
+            Term::Truth(m) => match other {
+                Term::Truth(n) => m == n,
+                _ => false,
+            },
+            Term::MinInt => match other {
+                Term::MinInt => true,
+                _ => false,
+            },
+            Term::MaxInt => match other {
+                Term::MaxInt => true,
+                _ => false,
+            },
+            Term::Var(m) => match other {
+                Term::Var(n) => m == n,
+                _ => false,
+            },
+            Term::Add(a, b) => match other {
+                Term::Add(c, d) => a.get().same(c.get()) && b.get().same(d.get()),
+                _ => false,
+            },
+            Term::Sub(a, b) => match other {
+                Term::Sub(c, d) => a.get().same(c.get()) && b.get().same(d.get()),
+                _ => false,
+            },
+            Term::Mul(a, b) => match other {
+                Term::Mul(c, d) => a.get().same(c.get()) && b.get().same(d.get()),
+                _ => false,
+            },
+            Term::Div(a, b) => match other {
+                Term::Div(c, d) => a.get().same(c.get()) && b.get().same(d.get()),
+                _ => false,
+            },
+            Term::Mod(a, b) => match other {
+                Term::Mod(c, d) => a.get().same(c.get()) && b.get().same(d.get()),
+                _ => false,
+            },
+            Term::Len(a) => match other {
+                Term::Len(c) => a.get().same(c.get()),
+                _ => false,
+            },
+            Term::Empty => match other {
+                Term::Empty => true,
+                _ => false,
+            },
+            Term::Single(a) => match other {
+                Term::Single(c) => a.get().same(c.get()),
+                _ => false,
+            },
+            Term::Cat(a, b) => match other {
+                Term::Cat(c, d) => a.get().same(c.get()) && b.get().same(d.get()),
+                _ => false,
+            },
+            Term::Reverse(a) => match other {
+                Term::Reverse(c) => a.get().same(c.get()),
+                _ => false,
+            },
+            Term::Part(i, j, a) => match other {
+                Term::Part(k, l, c) => i.get().same(k.get())
+                    && j.get().same(l.get())
+                    && a.get().same(c.get()),
+                _ => false,
+            },
+            Term::Tuple(parts) => match other {
+                Term::Tuple(others) => same_terms(parts.as_slice(), others.as_slice()),
+                _ => false,
+            },
+            Term::Proj(m, a) => match other {
+                Term::Proj(n, c) => m == n && a.get().same(c.get()),
+                _ => false,
+            },
+            Term::Eq(a, b) => match other {
+                Term::Eq(c, d) => a.get().same(c.get()) && b.get().same(d.get()),
+                _ => false,
+            },
+            Term::Less(a, b) => match other {
+                Term::Less(c, d) => a.get().same(c.get()) && b.get().same(d.get()),
+                _ => false,
+            },
+            Term::LessEq(a, b) => match other {
+                Term::LessEq(c, d) => a.get().same(c.get()) && b.get().same(d.get()),
+                _ => false,
+            },
+            Term::Not(a) => match other {
+                Term::Not(c) => a.get().same(c.get()),
+                _ => false,
+            },
+            Term::And(a, b) => match other {
+                Term::And(c, d) => a.get().same(c.get()) && b.get().same(d.get()),
+                _ => false,
+            },
+            Term::Or(a, b) => match other {
+                Term::Or(c, d) => a.get().same(c.get()) && b.get().same(d.get()),
+                _ => false,
+            },
+            Term::Implies(a, b) => match other {
+                Term::Implies(c, d) => a.get().same(c.get()) && b.get().same(d.get()),
+                _ => false,
+            },
+            Term::Initial(m, a) => match other {
+                Term::Initial(n, c) => m == n && a.get().same(c.get()),
+                _ => false,
+            },
+        }
+    }
 }
 
 /// The terms of a slice once more, in their order.
@@ -158,4 +273,19 @@ pub(crate) fn both(
         },
         Err(e) => Err(e),
     }
+}
+
+#[cycle(same)]
+fn same_terms(a: &[Term], b: &[Term]) -> bool
+    ensures { IsTrue result ↔ (a.now ≡ b.now) }
+{
+    if a.len() != b.len() {
+        return false;
+    }
+    for (x, y) in a.iter().zip(b) {
+        if !x.same(y) {
+            return false;
+        }
+    }
+    true
 }

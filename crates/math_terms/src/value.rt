@@ -1,6 +1,6 @@
 //! Values whose numbers fit 128 bits.
 
-ghost use Rattle.std.specs.Prelude.{◌≡◌, IfOk};
+ghost use Rattle.std.specs.Prelude.{◌≡◌, ◌↔◌, IfOk, IsTrue};
 
 use crate::name::NoMemory;
 use sqlite_items::Items;
@@ -28,6 +28,31 @@ impl Value {
             Value::Tup(parts) => Ok(Value::Tup(copy_values(alloc, parts.as_slice())?)),
         }
     }
+
+    /// Whether two values are equal. Values of two kinds are not.
+    #[cycle(same)]
+    pub fn same(&self, other: &Value) -> bool
+        ensures { IsTrue result ↔ (self.now ≡ other.now) }
+    {
+        match self {
+            Value::Num(m) => match other {
+                Value::Num(n) => m == n,
+                _ => false,
+            },
+            Value::Truth(a) => match other {
+                Value::Truth(b) => a == b,
+                _ => false,
+            },
+            Value::Str(us) => match other {
+                Value::Str(vs) => same_values(us.as_slice(), vs.as_slice()),
+                _ => false,
+            },
+            Value::Tup(us) => match other {
+                Value::Tup(vs) => same_values(us.as_slice(), vs.as_slice()),
+                _ => false,
+            },
+        }
+    }
 }
 
 /// The values of a slice once more, in their order.
@@ -40,4 +65,19 @@ pub fn copy_values(alloc: Global, values: &[Value]) -> Result<Items<Value>, NoMe
         out.push(v.copy(alloc)?)?;
     }
     Ok(out)
+}
+
+#[cycle(same)]
+fn same_values(a: &[Value], b: &[Value]) -> bool
+    ensures { IsTrue result ↔ (a.now ≡ b.now) }
+{
+    if a.len() != b.len() {
+        return false;
+    }
+    for (x, y) in a.iter().zip(b) {
+        if !x.same(y) {
+            return false;
+        }
+    }
+    true
 }
