@@ -80,9 +80,17 @@ pub record Condition : Type 0 where
   pub goal : Term
 
 -- The facts on the bounds of integers, and that Main begins with an empty output.
+abbrev pub least : Term
+least = at_most min_int (num (negsuc 999999999))
+
+abbrev pub greatest : Term
+greatest = at_most (num (pos 1000000000)) max_int
+
+abbrev pub begins_empty : Term
+begins_empty = equal output empty_string
+
 abbrev pub hypotheses : List Term
-hypotheses =
-    at_most min_int (num (negsuc 999999999)) ∷ at_most (num (pos 1000000000)) max_int ∷ equal output empty_string ∷ []
+hypotheses = least ∷ greatest ∷ begins_empty ∷ []
 
 -- the goal: the output at the end is what is claimed
 abbrev pub goal_of : Form → Term
