@@ -1,0 +1,228 @@
+//! The reader of a text's tokens, from its front to its end.
+
+ghost use Rattle.std.specs.Prelude.{◌≡◌, ℕ, pos, ◌+◌, ◌-◌, ◌^◌, ◌<◌, ◌≤◌, ◌⊎◌, Bool, true, false, List, [], length, take, drop, Some, slice_get, IsTrue, IfOk, IfErr, MatchResult, MatchOption};
+ghost use Rattle.std.specs.List.{prefix_len};
+ghost use Rattle.std.specs.Str.Parse.{digits_value};
+ghost use Rattle.res_lexer.specs.declared.token.LexError.{LexError};
+ghost use Rattle.res_lexer.specs.declared.token.Token.{Token};
+ghost use Rattle.res_lexer.specs.Reading.{first_passes, StandsAt, FaultOrNoMemory, NoSymbolBelow, IsFirstSymbol};
+ghost use Rattle.res_lexer.specs.Tokens.{is_blank, is_digit, begins_word, continues_word, is_literal, symbols, greatest_literal, AreTokens, Refuses, RefusesOrNoMemory};
+
+use std::alloc::Global;
+
+use math_terms::Name;
+
+use crate::token::{LexError, Token, TokenKind};
+
+const MOST_NAME_BYTES: usize = 64;
+const GREATEST_LITERAL: u64 = 1_000_000_000;
+const SYMBOLS: u8 = 19;
+
+fn is_blank(byte: u8) -> bool
+    ensures { result ≡ is_blank byte }
+{
+    byte == b' ' || byte == b'\t' || byte == b'\r' || byte == b'\n'
+}
+
+fn is_digit(byte: u8) -> bool
+    ensures { result ≡ is_digit byte }
+{
+    b'0' <= byte && byte <= b'9'
+}
+
+fn begins_word(byte: u8) -> bool
+    ensures { result ≡ begins_word byte }
+{
+    b'A' <= byte && byte <= b'Z' || b'a' <= byte && byte <= b'z' || byte == b'_'
+}
+
+fn continues_word(byte: u8) -> bool
+    ensures { result ≡ continues_word byte }
+{
+    begins_word(byte) || is_digit(byte)
+}
+
+// How many bytes at the front are blank.
+fn count_blanks(bytes: &[u8]) -> usize
+    ensures { result ≡ prefix_len is_blank bytes.now }
+{
+    bytes.iter().take_while(|byte| is_blank(**byte)).count()
+}
+
+// How many bytes at the front can go on in a word.
+fn word_len(bytes: &[u8]) -> usize
+    ensures { result ≡ prefix_len continues_word bytes.now }
+{
+    bytes.iter().take_while(|byte| continues_word(**byte)).count()
+}
+
+// How many bytes at the front are digits.
+fn digits_len(bytes: &[u8]) -> usize
+    ensures { result ≡ prefix_len is_digit bytes.now }
+{
+    bytes.iter().take_while(|byte| is_digit(**byte)).count()
+}
+
+// The number that decimal digits write, or `None` if it is too great for a literal.
+fn literal_value(digits: &[u8]) -> Option<u64>
+    requires { IsTrue (is_literal digits.now) }
+    ensures { MatchOption result (greatest_literal < digits_value 10 digits.now) (λ n. (n ≡ digits_value 10 digits.now) × (n ≤ greatest_literal)) }
+{
+    let mut value = 0;
+    for digit in digits {
+        value = value * 10 + u64::from(*digit - b'0');
+        if value > GREATEST_LITERAL {
+            return None;
+        }
+    }
+    Some(value)
+}
+
+// The bytes of the symbol of this number.
+fn symbol_text(number: u8) -> &'static [u8]
+    requires counted { 0 < number }
+    requires listed { number ≤ 19 }
+    ensures { slice_get symbols (number - 1) ≡ Some result.now }
+{
+    match number {
+        1 => b":=:",
+        2 => b":=",
+        3 => b"<=",
+        4 => b">=",
+        5 => b"/=",
+        6 => b"<",
+        7 => b">",
+        8 => b"=",
+        9 => b"+",
+        10 => b"-",
+        11 => b"*",
+        12 => b"(",
+        13 => b")",
+        14 => b",",
+        15 => b";",
+        16 => b":",
+        17 => b".",
+        18 => b"|",
+        _ => b"#",
+    }
+}
+
+// The number of the first symbol of the table that the text begins with, and how many bytes it has.
+// The table has the longer symbols first.
+fn first_symbol(rest: &[u8]) -> Option<(u8, usize)>
+    ensures { MatchOption result (NoSymbolBelow rest.now 20) (λ found. (text : List ℕ) × IsFirstSymbol rest.now found.0 text × (found.1 ≡ length text)) }
+{
+    for number in 1..=SYMBOLS {
+        let text = symbol_text(number);
+        if rest.starts_with(text) {
+            return Some((number, text.len()));
+        }
+    }
+    None
+}
+
+fn word_at(alloc: Global, at: u32, rest: &[u8]) -> Result<Token, LexError>
+    requires begins { IsTrue (first_passes begins_word rest.now) }
+    requires fits { length rest.now < 2 ^ 32 }
+    ensures found { IfOk result (λ t. StandsAt at rest.now t) }
+    ensures refused { IfErr result (λ e. FaultOrNoMemory at rest.now e) }
+{
+    let len = word_len(rest);
+    if len > MOST_NAME_BYTES {
+        return Err(LexError::LongName { at });
+    }
+    match Name::new(alloc, &rest[..len]) {
+        Ok(name) => Ok(Token {
+            at,
+            len: len as u32,
+            kind: TokenKind::Word(name),
+        }),
+        Err(_) => Err(LexError::NoMemory),
+    }
+}
+
+fn literal_at(at: u32, rest: &[u8]) -> Result<Token, LexError>
+    requires begins { IsTrue (first_passes is_digit rest.now) }
+    requires fits { length rest.now < 2 ^ 32 }
+    ensures found { IfOk result (λ t. StandsAt at rest.now t) }
+    ensures refused { IfErr result (λ e. FaultOrNoMemory at rest.now e) }
+{
+    let len = digits_len(rest);
+    match literal_value(&rest[..len]) {
+        Some(value) => Ok(Token {
+            at,
+            len: len as u32,
+            kind: TokenKind::Literal(value as i64),
+        }),
+        None => Err(LexError::BigLiteral { at }),
+    }
+}
+
+fn symbol_at(at: u32, rest: &[u8]) -> Result<Token, LexError>
+    requires some { 0 < length rest.now }
+    requires no_blank { first_passes is_blank rest.now ≡ false }
+    requires no_word { first_passes begins_word rest.now ≡ false }
+    requires no_literal { first_passes is_digit rest.now ≡ false }
+    requires fits { length rest.now < 2 ^ 32 }
+    ensures found { IfOk result (λ t. StandsAt at rest.now t) }
+    ensures refused { IfErr result (λ e. FaultOrNoMemory at rest.now e) }
+{
+    match first_symbol(rest) {
+        Some((number, len)) => Ok(Token {
+            at,
+            len: len as u32,
+            kind: TokenKind::Symbol(number),
+        }),
+        None => Err(LexError::BadByte { at }),
+    }
+}
+
+// The token at the front of a text that begins with no blank.
+fn token_at(alloc: Global, at: u32, rest: &[u8]) -> Result<Token, LexError>
+    requires some { 0 < length rest.now }
+    requires no_blank { first_passes is_blank rest.now ≡ false }
+    requires fits { length rest.now < 2 ^ 32 }
+    ensures found { IfOk result (λ t. StandsAt at rest.now t) }
+    ensures refused { IfErr result (λ e. FaultOrNoMemory at rest.now e) }
+{
+    let first = rest[0];
+    if begins_word(first) {
+        word_at(alloc, at, rest)
+    } else if is_digit(first) {
+        literal_at(at, rest)
+    } else {
+        symbol_at(at, rest)
+    }
+}
+
+fn read(alloc: Global, bytes: &[u8]) -> Result<Vec<Token>, LexError>
+    requires { length bytes.now < 2 ^ 32 }
+    ensures found { IfOk result (λ ts. AreTokens bytes.now ts.items) }
+    ensures refused { IfErr result (λ e. RefusesOrNoMemory bytes.now e) }
+{
+    let mut tokens = Vec::new(alloc);
+    let mut at = count_blanks(bytes);
+    while at < bytes.len() {
+        let rest = &bytes[at..];
+        let token = token_at(alloc, at as u32, rest)?;
+        let len = token.len as usize;
+        if tokens.push(token).is_err() {
+            return Err(LexError::NoMemory);
+        }
+        at += len + count_blanks(&rest[len..]);
+    }
+    Ok(tokens)
+}
+
+/// The tokens of a text in order, or the first place at which none can be read.
+pub fn tokens(alloc: Global, bytes: &[u8]) -> Result<Vec<Token>, LexError>
+    requires { length bytes.now < 2 ^ 32 }
+    ensures found { IfOk result (λ ts. AreTokens bytes.now ts.items) }
+    ensures refused { IfErr result (λ e. RefusesOrNoMemory bytes.now e) }
+
+    // A text that has tokens is read, and one that is refused answers its cause, but for want of memory.
+    ensures only { (ts : List Token) → AreTokens bytes.now ts → MatchResult result (λ v. v.items ≡ ts) (λ e. e ≡ LexError.NoMemory) }
+    ensures refused_only { (e : LexError) → Refuses bytes.now e → MatchResult result (λ _. ⊥) (λ f. (f ≡ e) ⊎ (f ≡ LexError.NoMemory)) }
+{
+    read(alloc, bytes)
+}
