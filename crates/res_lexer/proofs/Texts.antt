@@ -21,7 +21,7 @@ is_blank-le b h = grind (arith, nat_tests)
 le-begins_word : (b : ℕ) → begins_word b ≡ true → 65 ≤ b
 le-begins_word b h = grind (arith, nat_tests)
 
-is_digit-within : (b : ℕ) → is_digit b ≡ true → (48 ≤ b) × (b ≤ 57)
+pub is_digit-within : (b : ℕ) → is_digit b ≡ true → (48 ≤ b) × (b ≤ 57)
 is_digit-within b h = grind (arith, nat_tests)
 
 pub no_blank-begins_word : (b : ℕ) → begins_word b ≡ true → is_blank b ≡ false

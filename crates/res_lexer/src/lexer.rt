@@ -21,19 +21,19 @@ const SYMBOLS: u8 = 19;
 fn is_blank(byte: u8) -> bool
     ensures { result ≡ is_blank byte }
 {
-    byte == b' ' || byte == b'\t' || byte == b'\r' || byte == b'\n'
+    matches!(byte, b' ' | b'\t' | b'\r' | b'\n')
 }
 
 fn is_digit(byte: u8) -> bool
     ensures { result ≡ is_digit byte }
 {
-    b'0' <= byte && byte <= b'9'
+    byte.is_ascii_digit()
 }
 
 fn begins_word(byte: u8) -> bool
     ensures { result ≡ begins_word byte }
 {
-    b'A' <= byte && byte <= b'Z' || b'a' <= byte && byte <= b'z' || byte == b'_'
+    byte.is_ascii_alphabetic() || byte == b'_'
 }
 
 fn continues_word(byte: u8) -> bool
@@ -201,14 +201,13 @@ fn read(alloc: Global, bytes: &[u8]) -> Result<Vec<Token>, LexError>
     ensures refused { IfErr result (λ e. RefusesOrNoMemory bytes.now e) }
 {
     let mut tokens = Vec::new(alloc);
+    // Here no blank stands at the place, and all before it is read.
     let mut at = count_blanks(bytes);
     while at < bytes.len() {
         let rest = &bytes[at..];
         let token = token_at(alloc, at as u32, rest)?;
         let len = token.len as usize;
-        if tokens.push(token).is_err() {
-            return Err(LexError::NoMemory);
-        }
+        tokens.push(token).map_err(|_| LexError::NoMemory)?;
         at += len + count_blanks(&rest[len..]);
     }
     Ok(tokens)
