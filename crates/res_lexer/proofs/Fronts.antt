@@ -1,5 +1,5 @@
 -- What stands at the front of a text that begins with no blank.
-use Rattle.std.proofs.Common.{◌≡◌, ℕ, ◌+◌, ◌-◌, ⊎_elim, ◌<◌, ◌≤◌, Bool, true, false, pos, List, [], ◌∷◌, ◌++◌, length, take, drop, Some, refl, sym, ap, ◌∙◌, subst, add-zero, take-append-drop, length-take-le, length-take, length-append, arith}
+use Rattle.std.proofs.Common.{◌≡◌, ℕ, ◌+◌, ◌-◌, ⊎_elim, ◌<◌, ◌≤◌, true, false, pos, List, [], ◌∷◌, ◌++◌, length, take, drop, Some, refl, sym, ap, ◌∙◌, subst, add-zero, take-append-drop, length-take-le, length-take, length-append, arith}
 use Rattle.std.proofs.lemmas.Bool.{and_from, or_left, true≢false, cases_lt}
 use Rattle.std.proofs.lemmas.List.Sums.{prefix_len-le-length}
 use Rattle.std.specs.List.{list_all, prefix_len, starts_with}
@@ -10,7 +10,7 @@ use Rattle.res_lexer.specs.declared.token.TokenKind.{TokenKind}
 use Rattle.res_lexer.specs.declared.token.TokenKind.TheVariants.{Word, Literal, Symbol}
 use Rattle.res_lexer.specs.declared.token.LexError.TheVariants.{BadByte, LongName, BigLiteral}
 use Rattle.res_lexer.specs.Reading.{first_passes, StandsAt, NoSymbolBelow, IsFirstSymbol}
-use Rattle.res_lexer.specs.Tokens.{is_blank, is_digit, begins_word, continues_word, is_word, is_literal, is_token, IsLongest, Means, BeginsNothing, BeginsWith, Fault, symbols, most_name_bytes, greatest_literal}
+use Rattle.res_lexer.specs.Tokens.{is_blank, is_digit, begins_word, continues_word, is_word, is_literal, is_token, IsLongest, Means, Fault, symbols, most_name_bytes, greatest_literal}
 use Rattle.res_lexer.proofs.Lists.{front_passes, rest_stops, front_begins}
 use Rattle.res_lexer.proofs.Texts.{starts-take, no_token-nil, means_token, IsLongest-word, IsLongest-literal, IsLongest-symbol, no_token-rest}
 
@@ -51,18 +51,21 @@ word_stands place n rest name begins is short named =
     let fits = prefix_len-le-length continues_word rest in
     subst P (sym is)
     (λ few spelled. stands place (prefix_len continues_word rest) rest (Word name) fits
-        (front_word rest begins, spelled, subst (λ m. m ≤ most_name_bytes) (sym (length-take-le (prefix_len continues_word rest) rest fits)) few)
-        (word_longest rest begins))
+    (front_word rest begins, spelled, subst (λ m. m ≤ most_name_bytes) (sym (length-take-le (prefix_len continues_word rest) rest fits)) few)
+    (word_longest rest begins))
     short named
 
 pub long_name : (place n : ℕ) (rest : List ℕ) → first_passes begins_word rest ≡ true → n ≡ prefix_len continues_word rest → most_name_bytes < n → Fault (LongName place) place rest
 long_name place n rest begins is long =
     let front = prefix_len continues_word rest in
-    let fits = prefix_len-le-length continues_word rest in
-    (refl, take front rest, drop front rest,
-    record { whole = sym (take-append-drop front rest); longest = word_longest rest begins },
-    front_word rest begins,
-    omega (arith, is, length-take-le front rest fits))
+    let fits = prefix_len-le-length continues_word rest in (
+      refl,
+      take front rest,
+      drop front rest,
+      record { whole = sym (take-append-drop front rest); longest = word_longest rest begins },
+      front_word rest begins,
+      omega (arith, is, length-take-le front rest fits),
+    )
 
 -- ---- literals
 
@@ -82,17 +85,20 @@ literal_stands place n value rest begins is valued small =
     let fits = prefix_len-le-length is_digit rest in
     subst P (sym is)
     (λ spelled. stands place (prefix_len is_digit rest) rest (Literal (pos value)) fits
-        (front_literal rest begins, ap pos spelled, subst (λ m. m ≤ greatest_literal) spelled small)
-        (literal_longest rest begins))
+    (front_literal rest begins, ap pos spelled, subst (λ m. m ≤ greatest_literal) spelled small)
+    (literal_longest rest begins))
     valued
 
 pub big_literal : (place n : ℕ) (rest : List ℕ) → first_passes is_digit rest ≡ true → n ≡ prefix_len is_digit rest → greatest_literal < digits_value 10 (take n rest) → Fault (BigLiteral place) place rest
 big_literal place n rest begins is big =
-    let front = prefix_len is_digit rest in
-    (refl, take front rest, drop front rest,
-    record { whole = sym (take-append-drop front rest); longest = literal_longest rest begins },
-    front_literal rest begins,
-    subst (λ m. greatest_literal < digits_value 10 (take m rest)) is big)
+    let front = prefix_len is_digit rest in (
+      refl,
+      take front rest,
+      drop front rest,
+      record { whole = sym (take-append-drop front rest); longest = literal_longest rest begins },
+      front_literal rest begins,
+      subst (λ m. greatest_literal < digits_value 10 (take m rest)) is big,
+    )
 
 -- ---- symbols
 
@@ -106,12 +112,14 @@ symbol_stands place n number rest text no_word no_digit first is =
     stands place n rest (Symbol number) fits both.0 both.1
 
 pub bad_byte : (place : ℕ) (rest : List ℕ) → 0 < length rest → first_passes is_blank rest ≡ false → first_passes begins_word rest ≡ false → first_passes is_digit rest ≡ false → NoSymbolBelow rest 20 → Fault (BadByte place) place rest
-bad_byte place rest some no_blank no_word no_digit none =
-    (refl, record {
-      some = some;
-      no_blank = λ b after cut. rw cut at no_blank;
-      no_token = λ text after cut. no_token-rest rest text after no_word no_digit none cut;
-    })
+bad_byte place rest some no_blank no_word no_digit none = (
+  refl,
+  record {
+    some = some;
+    no_blank = λ b after cut. rw cut at no_blank;
+    no_token = λ text after cut. no_token-rest rest text after no_word no_digit none cut;
+  },
+)
 
 -- one more symbol of the table that does not stand at the front
 pub no_symbol_more : (rest text : List ℕ) (number : ℕ) → NoSymbolBelow rest number → slice_get symbols (number - 1) ≡ Some text → starts_with nat_eq rest text ≡ false → NoSymbolBelow rest (number + 1)
@@ -119,8 +127,8 @@ no_symbol_more rest text number none named fails k u counted below is =
     ⊎_elim
     (λ less. none k u counted less is)
     (λ more.
-        let same : k ≡ number = omega arith in
-        let here : slice_get symbols (number - 1) ≡ Some u = subst (λ n. slice_get symbols (n - 1) ≡ Some u) same is in
-        let alike : text ≡ u = cc in
-        subst (λ s. starts_with nat_eq rest s ≡ false) alike fails)
+    let same : k ≡ number = omega arith in
+    let here : slice_get symbols (number - 1) ≡ Some u = subst (λ n. slice_get symbols (n - 1) ≡ Some u) same is in
+    let alike : text ≡ u = cc in
+    subst (λ s. starts_with nat_eq rest s ≡ false) alike fails)
     (cases_lt k number)

@@ -1,5 +1,5 @@
 -- One text has one reading: the tokens up to where a reading stops are determined, and so is why it stops.
-use Rattle.std.proofs.Common.{◌≡◌, ℕ, ◌+◌, ◌<◌, ◌≤◌, ◌⊎◌, true, false, ◌&&◌, List, [], ◌∷◌, ◌++◌, length, refl, sym, ap, ◌∙◌, subst, inl, inr, ⊎_elim, append-nil, append_assoc, length-append, arith}
+use Rattle.std.proofs.Common.{◌≡◌, ℕ, ◌+◌, ◌<◌, true, false, List, [], ◌∷◌, ◌++◌, length, refl, sym, ap, ◌∙◌, subst, ⊎_elim, append-nil, length-append, arith}
 use Rattle.std.proofs.lemmas.Bool.{and_parts, true≢false}
 use Rattle.std.specs.List.{list_all}
 use Rattle.std.specs.Str.Parse.{digits_value}
@@ -35,11 +35,11 @@ same_text : (text after uext end : List ℕ) → is_token text ≡ true → is_t
 same_text text after uext end token uoken longest ulongest e =
     ⊎_elim
     (λ l.
-        let none : l.0 ≡ [] = longest l.0 end l.2 (subst (λ u. is_token u ≡ true) l.1 uoken) in
-        (sym (l.1 ∙ ap (λ m. text ++ m) none ∙ append-nil text), l.2 ∙ ap (λ m. m ++ end) none))
+    let none : l.0 ≡ [] = longest l.0 end l.2 (subst (λ u. is_token u ≡ true) l.1 uoken) in
+    (sym (l.1 ∙ ap (λ m. text ++ m) none ∙ append-nil text), l.2 ∙ ap (λ m. m ++ end) none))
     (λ l.
-        let none : l.0 ≡ [] = ulongest l.0 after l.2 (subst (λ u. is_token u ≡ true) l.1 token) in
-        (l.1 ∙ ap (λ m. uext ++ m) none ∙ append-nil uext, sym (l.2 ∙ ap (λ m. m ++ after) none)))
+    let none : l.0 ≡ [] = ulongest l.0 after l.2 (subst (λ u. is_token u ≡ true) l.1 token) in
+    (l.1 ∙ ap (λ m. uext ++ m) none ∙ append-nil uext, sym (l.2 ∙ ap (λ m. m ++ after) none)))
     (cuts text after uext end e)
 
 record SameNext (t u : Token) (gap hap text uext after end : List ℕ) : Type 0 where

@@ -1,5 +1,5 @@
 -- The reading of a whole text: what holds between two tokens.
-use Rattle.std.proofs.Common.{◌≡◌, ℕ, ◌+◌, ◌<◌, ◌≤◌, ◌⊎◌, true, false, List, [], ◌∷◌, ◌++◌, length, take, drop, Result, Ok, Err, Vec, Global, refl, sym, ap, ◌∙◌, subst, inl, inr, ⊎_elim, take-append-drop, length-take-le, length-drop, drop-drop, arith}
+use Rattle.std.proofs.Common.{◌≡◌, ℕ, ◌+◌, ◌≤◌, ◌⊎◌, true, false, List, [], ◌∷◌, ◌++◌, length, take, drop, Result, Ok, Err, Vec, Global, refl, sym, ap, ◌∙◌, subst, inl, inr, ⊎_elim, take-append-drop, length-take-le, length-drop, drop-drop, arith}
 use Rattle.std.proofs.lemmas.List.{drop_all}
 use Rattle.std.proofs.lemmas.List.Sums.{prefix_len-le-length}
 use Rattle.std.specs.List.{list_all, prefix_len}
@@ -21,17 +21,20 @@ pub record HasRead (bytes : List ℕ) (ts : List Token) (place : ℕ) : Type 0 w
 
 -- one more token and the blanks after it
 begin_more : (ts : List Token) (place to : ℕ) (bytes rest text after gap end : List ℕ) (t : Token) → Begin place bytes ts to rest → IsNext to rest t [] text after → after ≡ gap ++ end → list_all is_blank gap ≡ true → Begin place bytes (ts ++ t ∷ []) (to + length text + length gap) end
-begin_more [] place to bytes rest text after gap end t b next cut blank =
-    (b.0, text, after,
-    record {
-      whole = b.1 ∙ ap (λ l. b.0 ++ l) next.whole;
-      blanks = b.2;
-      at = omega (arith, next.at, b.3);
-      len = next.len;
-      means = next.means;
-      longest = next.longest;
-    },
-    (gap, cut, blank, omega (arith, b.3)))
+begin_more [] place to bytes rest text after gap end t b next cut blank = (
+  b.0,
+  text,
+  after,
+  record {
+    whole = b.1 ∙ ap (λ l. b.0 ++ l) next.whole;
+    blanks = b.2;
+    at = omega (arith, next.at, b.3);
+    len = next.len;
+    means = next.means;
+    longest = next.longest;
+  },
+  (gap, cut, blank, omega (arith, b.3)),
+)
 begin_more (u ∷ ts) place to bytes rest text after gap end t b next cut blank =
     (b.0, b.1, b.2, b.3, begin_more ts (place + length b.0 + length b.1) to b.2 rest text after gap end t b.4 next cut blank)
 

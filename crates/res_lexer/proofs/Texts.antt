@@ -1,10 +1,10 @@
 -- The text of a token: its first byte says of which kind it is, and the next byte whether it is the longest.
-use Rattle.std.proofs.Common.{◌≡◌, ℕ, zero, suc, ◌+◌, ◌-◌, ◌<◌, ◌≤◌, ◌⊎◌, Bool, true, false, not, ◌&&◌, ◌||◌, eqb, List, [], ◌∷◌, ◌++◌, length, take, drop, Some, None, refl, sym, ap, ◌∙◌, subst, inl, inr, ⊎_elim, append_assoc, append-nil, arith}
-use Rattle.std.proofs.lemmas.Bool.{cases_Bool, and_parts, and_from, or_cases, or_from, or_left, or_right, eqb-true, eq-eqb, true≢false, not-true, false_from_ne_true}
+use Rattle.std.proofs.Common.{◌≡◌, ℕ, zero, suc, ◌-◌, ◌<◌, ◌≤◌, ◌⊎◌, Bool, true, false, not, ◌&&◌, ◌||◌, eqb, List, [], ◌∷◌, ◌++◌, length, take, Some, refl, sym, ap, ◌∙◌, inl, inr, ⊎_elim, append_assoc, append-nil, arith}
+use Rattle.std.proofs.lemmas.Bool.{and_parts, and_from, or_cases, or_from, or_left, or_right, eqb-true, eq-eqb, true≢false, not-true, false_from_ne_true}
 use Rattle.std.proofs.lemmas.Bool.Decides.{nat_tests}
 use Rattle.std.proofs.lemmas.List.{append_cancel_left}
 use Rattle.std.proofs.lemmas.List.Folds.{list_all-append}
-use Rattle.std.specs.Prelude.{nat_eq, slice_get, IsTrue}
+use Rattle.std.specs.Prelude.{nat_eq, slice_get}
 use Rattle.std.specs.List.{list_all, list_any, starts_with}
 use Rattle.std.specs.Str.Parse.{digits_value}
 use Rattle.res_lexer.specs.declared.token.TokenKind.{TokenKind}
@@ -116,17 +116,17 @@ longest_in (s ∷ table) zero text rest more after free named before here whole 
     ⊎_elim
     (λ same. append_cancel_left text more [] (same_from_test (text ++ more) s same ∙ first ∙ sym (append-nil text)))
     (λ later.
-        let no : not (starts_with nat_eq (text ++ more) s) ≡ true = in_table (λ u. not (starts_with nat_eq u s)) (text ++ more) table later parts.0 in
-        let starts : starts_with nat_eq (text ++ more) s ≡ true = rw first (front_starts text more) in
-        absurd (true≢false (sym starts ∙ not-true _ no)))
+    let no : not (starts_with nat_eq (text ++ more) s) ≡ true = in_table (λ u. not (starts_with nat_eq u s)) (text ++ more) table later parts.0 in
+    let starts : starts_with nat_eq (text ++ more) s ≡ true = rw first (front_starts text more) in
+    absurd (true≢false (sym starts ∙ not-true _ no)))
     (or_cases (same_bytes (text ++ more) s) (list_any (same_bytes (text ++ more)) table) here)
 longest_in (s ∷ table) (suc i) text rest more after free named before here whole =
     let parts = and_parts (list_all (λ u. not (starts_with nat_eq u s)) table) (later_is_no_longer table) free in
     ⊎_elim
     (λ same.
-        let is : text ++ more ≡ s = same_from_test (text ++ more) s same in
-        let starts : starts_with nat_eq rest s ≡ true = rw (whole, is) (front_starts s after) in
-        absurd (true≢false (sym starts ∙ before 0 s (omega arith) refl)))
+    let is : text ++ more ≡ s = same_from_test (text ++ more) s same in
+    let starts : starts_with nat_eq rest s ≡ true = rw (whole, is) (front_starts s after) in
+    absurd (true≢false (sym starts ∙ before 0 s (omega arith) refl)))
     (λ later. longest_in table i text rest more after parts.1 named (λ j u lt is. before (suc j) u (omega arith) is) later whole)
     (or_cases (same_bytes (text ++ more) s) (list_any (same_bytes (text ++ more)) table) here)
 
@@ -136,9 +136,9 @@ none_in [] text rest after none whole = refl
 none_in (s ∷ table) text rest after none whole =
     or_from (same_bytes text s) (list_any (same_bytes text) table)
     (false_from_ne_true (same_bytes text s) (λ same.
-        let is : text ≡ s = same_from_test text s same in
-        let starts : starts_with nat_eq rest s ≡ true = rw (whole, is) (front_starts s after) in
-        true≢false (sym starts ∙ none 0 s refl)))
+    let is : text ≡ s = same_from_test text s same in
+    let starts : starts_with nat_eq rest s ≡ true = rw (whole, is) (front_starts s after) in
+    true≢false (sym starts ∙ none 0 s refl)))
     (none_in table text rest after (λ j u is. none (suc j) u is) whole)
 
 -- ---- kinds
@@ -147,10 +147,10 @@ token_cases : (b : ℕ) (bs : List ℕ) → is_token (b ∷ bs) ≡ true → ((b
 token_cases b bs h =
     ⊎_elim
     (λ other.
-        ⊎_elim
-        (λ word. inl (and_parts (begins_word b) (list_all continues_word bs) word))
-        (λ literal. inr (inl (and_parts (is_digit b) (list_all is_digit bs) literal)))
-        (or_cases (is_word (b ∷ bs)) (is_literal (b ∷ bs)) other))
+    ⊎_elim
+    (λ word. inl (and_parts (begins_word b) (list_all continues_word bs) word))
+    (λ literal. inr (inl (and_parts (is_digit b) (list_all is_digit bs) literal)))
+    (or_cases (is_word (b ∷ bs)) (is_literal (b ∷ bs)) other))
     (λ symbol. inr (inr symbol))
     (or_cases (is_word (b ∷ bs) || is_literal (b ∷ bs)) (is_symbol (b ∷ bs)) h)
 
@@ -270,8 +270,8 @@ IsLongest-symbol rest (b ∷ bs) after number no_word no_digit first cut more en
     let symbol = only_symbol b (bs ++ more) (rw cut at no_word) (rw cut at no_digit) token in
     longest_in symbols (number - 1) (b ∷ bs) rest more end refl first.named
     (λ j s below named.
-        let is : suc j - 1 ≡ j = omega arith in
-        first.before (suc j) s (omega arith) (omega arith) (rw is named))
+    let is : suc j - 1 ≡ j = omega arith in
+    first.before (suc j) s (omega arith) (omega arith) (rw is named))
     symbol
     (cut ∙ ap (λ l. b ∷ bs ++ l) whole ∙ sym (append_assoc (b ∷ bs) more end))
 
@@ -280,10 +280,10 @@ pub no_token-rest : (rest text after : List ℕ) → first_passes begins_word re
 no_token-rest rest [] after no_word no_digit none cut = refl
 no_token-rest rest (b ∷ bs) after no_word no_digit none cut =
     false_from_ne_true (is_token (b ∷ bs)) (λ token.
-        let symbol = only_symbol b bs (rw cut at no_word) (rw cut at no_digit) token in
-        let absent = none_in symbols (b ∷ bs) rest after
-            (λ j s named.
-                let is : suc j - 1 ≡ j = omega arith in
-                none (suc j) s (omega arith) (omega (arith, in_range symbols j s named)) (rw is named))
-            cut in
-        true≢false (sym symbol ∙ absent))
+    let symbol = only_symbol b bs (rw cut at no_word) (rw cut at no_digit) token in
+    let absent = none_in symbols (b ∷ bs) rest after
+    (λ j s named.
+    let is : suc j - 1 ≡ j = omega arith in
+    none (suc j) s (omega arith) (omega (arith, in_range symbols j s named)) (rw is named))
+    cut in
+    true≢false (sym symbol ∙ absent))

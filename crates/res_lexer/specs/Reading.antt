@@ -1,5 +1,5 @@
 -- One token at the front of a text that begins with no blank: what a reader of the whole text is made of.
-use Rattle.std.specs.Prelude.{◌≡◌, ℕ, ◌-◌, ◌<◌, Bool, true, false, List, [], ◌∷◌, take, drop, Option, Some, slice_get, nat_eq}
+use Rattle.std.specs.Prelude.{◌≡◌, ℕ, ◌-◌, ◌<◌, Bool, true, false, List, [], ◌∷◌, take, drop, Some, slice_get, nat_eq}
 use Rattle.std.specs.List.{starts_with}
 use Rattle.res_lexer.specs.declared.token.Token.{Token}
 use Rattle.res_lexer.specs.declared.token.LexError.{LexError}

@@ -8,14 +8,14 @@ ghost use Rattle.res_lexer.specs.declared.token.Token.{Token};
 ghost use Rattle.res_lexer.specs.Reading.{first_passes, StandsAt, FaultOrNoMemory, NoSymbolBelow, IsFirstSymbol};
 ghost use Rattle.res_lexer.specs.Tokens.{is_blank, is_digit, begins_word, continues_word, is_literal, symbols, greatest_literal, AreTokens, Refuses, RefusesOrNoMemory};
 
+use crate::token::{LexError, Token, TokenKind};
+use math_terms::Name;
 use std::alloc::Global;
 
-use math_terms::Name;
-
-use crate::token::{LexError, Token, TokenKind};
-
 const MOST_NAME_BYTES: usize = 64;
+
 const GREATEST_LITERAL: u64 = 1_000_000_000;
+
 const SYMBOLS: u8 = 19;
 
 fn is_blank(byte: u8) -> bool
@@ -53,7 +53,10 @@ fn count_blanks(bytes: &[u8]) -> usize
 fn word_len(bytes: &[u8]) -> usize
     ensures { result ≡ prefix_len continues_word bytes.now }
 {
-    bytes.iter().take_while(|byte| continues_word(**byte)).count()
+    bytes
+        .iter()
+        .take_while(|byte| continues_word(**byte))
+        .count()
 }
 
 // How many bytes at the front are digits.

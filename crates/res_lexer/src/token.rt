@@ -2,9 +2,8 @@
 
 ghost use Rattle.std.specs.Prelude.{◌≡◌, ◌↔◌, IfOk, IsTrue};
 
-use std::alloc::Global;
-
 use math_terms::{Name, NoMemory};
+use std::alloc::Global;
 use thiserror::Error;
 
 /// A token: the place of its first byte in the file, from 0, the number of its bytes, and what it is.

@@ -5,9 +5,11 @@ use Rattle.res_lexer.proofs.lexer.literal_value.Goals as goal
 
 pub returns-then-value-gt-GREATEST_LITERAL : goal.returns-then-value-gt-GREATEST_LITERAL
 returns-then-value-gt-GREATEST_LITERAL c =
-    omega (arith,
-    literal_more c.args.digits.now c.loop-digit.digit-index c.requires c.loop-digit-test.true,
-    digits_value-take-le 10 c.args.digits.now (c.loop-digit.digit-index + 1) (omega arith))
+    omega (
+      arith,
+      literal_more c.args.digits.now c.loop-digit.digit-index c.requires c.loop-digit-test.true,
+      digits_value-take-le 10 c.args.digits.now (c.loop-digit.digit-index + 1) (omega arith),
+    )
 
 pub loop-digit-preserved : goal.loop-digit-preserved
 loop-digit-preserved c = record {

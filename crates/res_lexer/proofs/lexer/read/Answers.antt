@@ -1,9 +1,10 @@
-use Rattle.std.proofs.Common.{◌≡◌, ◌+◌, ◌-◌, [], ◌∷◌, ◌++◌, sym, subst, ap, ◌∙◌, take, drop, length, arith}
+use Rattle.std.proofs.Common.{◌+◌, ◌-◌, [], ◌∷◌, ◌++◌, sym, subst, ap, ◌∙◌, take, drop, length, is_ok, arith}
 use Rattle.std.proofs.lemmas.Bool.{cond-true}
 use Rattle.std.proofs.lemmas.List.{take_rest}
 use Rattle.std.specs.List.{prefix_len}
 use Rattle.res_lexer.specs.Reading.{StandsAt}
 use Rattle.res_lexer.specs.Tokens.{is_blank}
+use Rattle.res_lexer.proofs.Fronts.{stands_bounds}
 use Rattle.res_lexer.proofs.Steps.{HasRead, has_read_none, has_read_more}
 use Rattle.res_lexer.proofs.lexer.read.Goals as goal
 
@@ -28,5 +29,10 @@ overflow_add-at-in-loop-at c = omega (arith, (one_more c).within)
 
 pub loop-at-preserved : goal.loop-at-preserved
 loop-at-preserved c =
-    let pushed = c.push.ensures.items ∙ cond-true _ _ _ c.if-is_err.ensures.negation in
+    let stored = sym c.map_err.ensures.variant ∙ ap is_ok c.in_ok-map_err.was in
+    let pushed = c.push.ensures.items ∙ cond-true _ _ _ stored in
     subst (λ ts. HasRead c.args.bytes.now ts (c.loop-at.at + (c.in_ok-token.token.len + c.count_blanks.result))) (sym pushed) (one_more c)
+
+pub loop-at-smaller : goal.loop-at-smaller
+loop-at-smaller c =
+    omega (arith, (one_more c).within, stands_bounds _ _ c.in_ok-token.token c.in_ok-token.ensures.found)
