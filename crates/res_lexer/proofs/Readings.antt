@@ -19,41 +19,41 @@ no_blank_before (b ∷ bs) after token = no_blank-token b bs token
 
 -- the blanks before what is not blank are determined
 same_gap : (g h xs ys : List ℕ) → first_passes is_blank xs ≡ false → first_passes is_blank ys ≡ false → list_all is_blank g ≡ true → list_all is_blank h ≡ true → g ++ xs ≡ h ++ ys → (g ≡ h) × (xs ≡ ys)
-same_gap [] [] xs ys dark dim blank pale e = (refl, e)
-same_gap [] (c ∷ h) xs ys dark dim blank pale e =
-    absurd (true≢false (sym (and_parts (is_blank c) (list_all is_blank h) pale).0 ∙ (rw e at dark)))
-same_gap (c ∷ g) [] xs ys dark dim blank pale e =
-    absurd (true≢false (sym (and_parts (is_blank c) (list_all is_blank g) blank).0 ∙ (rw (sym e) at dim)))
-same_gap (c ∷ g) (d ∷ h) xs ys dark dim blank pale e =
+same_gap [] [] xs ys left_stops right_stops left_blank right_blank e = (refl, e)
+same_gap [] (c ∷ h) xs ys left_stops right_stops left_blank right_blank e =
+    absurd (true≢false (sym (and_parts (is_blank c) (list_all is_blank h) right_blank).0 ∙ (rw e at left_stops)))
+same_gap (c ∷ g) [] xs ys left_stops right_stops left_blank right_blank e =
+    absurd (true≢false (sym (and_parts (is_blank c) (list_all is_blank g) left_blank).0 ∙ (rw (sym e) at right_stops)))
+same_gap (c ∷ g) (d ∷ h) xs ys left_stops right_stops left_blank right_blank e =
     let head : c ≡ d = cc in
     let tail : g ++ xs ≡ h ++ ys = cc in
-    let rest = same_gap g h xs ys dark dim (and_parts (is_blank c) (list_all is_blank g) blank).1 (and_parts (is_blank d) (list_all is_blank h) pale).1 tail in
+    let rest = same_gap g h xs ys left_stops right_stops (and_parts (is_blank c) (list_all is_blank g) left_blank).1 (and_parts (is_blank d) (list_all is_blank h) right_blank).1 tail in
     (cc, rest.1)
 
 -- two tokens that are both the longest at one place are one
-same_text : (text after uext end : List ℕ) → is_token text ≡ true → is_token uext ≡ true → IsLongest text after → IsLongest uext end → text ++ after ≡ uext ++ end → (text ≡ uext) × (after ≡ end)
-same_text text after uext end token uoken longest ulongest e =
+same_text : (text after other_text end : List ℕ) → is_token text ≡ true → is_token other_text ≡ true → IsLongest text after → IsLongest other_text end → text ++ after ≡ other_text ++ end → (text ≡ other_text) × (after ≡ end)
+same_text text after other_text end token other_token longest other_longest e =
     ⊎_elim
     (λ l.
-    let none : l.0 ≡ [] = longest l.0 end l.2 (subst (λ u. is_token u ≡ true) l.1 uoken) in
+    let none : l.0 ≡ [] = longest l.0 end l.2 (subst (λ u. is_token u ≡ true) l.1 other_token) in
     (sym (l.1 ∙ ap (λ m. text ++ m) none ∙ append-nil text), l.2 ∙ ap (λ m. m ++ end) none))
     (λ l.
-    let none : l.0 ≡ [] = ulongest l.0 after l.2 (subst (λ u. is_token u ≡ true) l.1 token) in
-    (l.1 ∙ ap (λ m. uext ++ m) none ∙ append-nil uext, sym (l.2 ∙ ap (λ m. m ++ after) none)))
-    (cuts text after uext end e)
+    let none : l.0 ≡ [] = other_longest l.0 after l.2 (subst (λ u. is_token u ≡ true) l.1 token) in
+    (l.1 ∙ ap (λ m. other_text ++ m) none ∙ append-nil other_text, sym (l.2 ∙ ap (λ m. m ++ after) none)))
+    (cuts text after other_text end e)
 
-record SameNext (t u : Token) (gap hap text uext after end : List ℕ) : Type 0 where
+record SameNext (t u : Token) (gap other_gap text other_text after end : List ℕ) : Type 0 where
   same_token : t ≡ u
-  same_blanks : gap ≡ hap
-  same_stretch : text ≡ uext
+  same_blanks : gap ≡ other_gap
+  same_stretch : text ≡ other_text
   same_after : after ≡ end
 
-same_next : {place : ℕ} {bytes : List ℕ} {t u : Token} {gap hap text uext after end : List ℕ} → IsNext place bytes t gap text after → IsNext place bytes u hap uext end → SameNext t u gap hap text uext after end
-same_next {place} {bytes} {t} {u} {gap} {hap} {text} {uext} {after} {end} n m =
+same_next : {place : ℕ} {bytes : List ℕ} {t u : Token} {gap other_gap text other_text after end : List ℕ} → IsNext place bytes t gap text after → IsNext place bytes u other_gap other_text end → SameNext t u gap other_gap text other_text after end
+same_next {place} {bytes} {t} {u} {gap} {other_gap} {text} {other_text} {after} {end} n m =
     let token = means_token t.kind text n.means in
-    let uoken = means_token u.kind uext m.means in
-    let starts = same_gap gap hap (text ++ after) (uext ++ end) (no_blank_before text after token) (no_blank_before uext end uoken) n.blanks m.blanks (sym n.whole ∙ m.whole) in
-    let texts = same_text text after uext end token uoken n.longest m.longest starts.1 in
+    let other_token = means_token u.kind other_text m.means in
+    let starts = same_gap gap other_gap (text ++ after) (other_text ++ end) (no_blank_before text after token) (no_blank_before other_text end other_token) n.blanks m.blanks (sym n.whole ∙ m.whole) in
+    let texts = same_text text after other_text end token other_token n.longest m.longest starts.1 in
     let kinds : t.kind ≡ u.kind = same_kind t.kind u.kind text n.means (subst (λ l. Means u.kind l) (sym texts.0) m.means) in
     let ats : t.at ≡ u.at = n.at ∙ ap (λ g. place + length g) starts.0 ∙ sym m.at in
     let lens : t.len ≡ u.len = n.len ∙ ap length texts.0 ∙ sym m.len in
@@ -96,9 +96,9 @@ IsStuck-fault (LongName at) to rest fault =
     let word = fault.4 in
     record {
       no_blank = BeginsWith-no_blank rest text after begins (word_is_token text word);
-      no_token = λ k uext end cut means longest.
-          let same = same_text text after uext end (word_is_token text word) (means_token k uext means) begins.longest longest (sym begins.whole ∙ cut) in
-          omega (arith, means-word k uext (subst (λ l. is_word l ≡ true) same.0 word) means, ap length same.0, fault.5);
+      no_token = λ k other_text end cut means longest.
+          let same = same_text text after other_text end (word_is_token text word) (means_token k other_text means) begins.longest longest (sym begins.whole ∙ cut) in
+          omega (arith, means-word k other_text (subst (λ l. is_word l ≡ true) same.0 word) means, ap length same.0, fault.5);
     }
 IsStuck-fault (BigLiteral at) to rest fault =
     let text = fault.1 in
@@ -107,36 +107,36 @@ IsStuck-fault (BigLiteral at) to rest fault =
     let literal = fault.4 in
     record {
       no_blank = BeginsWith-no_blank rest text after begins (literal_is_token text literal);
-      no_token = λ k uext end cut means longest.
-          let same = same_text text after uext end (literal_is_token text literal) (means_token k uext means) begins.longest longest (sym begins.whole ∙ cut) in
-          omega (arith, means-literal k uext (subst (λ l. is_literal l ≡ true) same.0 literal) means, ap (λ l. digits_value 10 l) same.0, fault.5);
+      no_token = λ k other_text end cut means longest.
+          let same = same_text text after other_text end (literal_is_token text literal) (means_token k other_text means) begins.longest longest (sym begins.whole ∙ cut) in
+          omega (arith, means-literal k other_text (subst (λ l. is_literal l ≡ true) same.0 literal) means, ap (λ l. digits_value 10 l) same.0, fault.5);
     }
 IsStuck-fault NoMemory to rest fault = absurd fault
 
-record SameBegin (ts us : List Token) (to uo : ℕ) (rest end : List ℕ) : Type 0 where
+record SameBegin (ts us : List Token) (to other_to : ℕ) (rest end : List ℕ) : Type 0 where
   same_tokens : ts ≡ us
-  same_place : to ≡ uo
+  same_place : to ≡ other_to
   same_rest : rest ≡ end
 
 -- two readings from one place that both stop are one
-same_begin : (ts us : List Token) (place : ℕ) (bytes rest end : List ℕ) (to uo : ℕ) → IsStuck rest → IsStuck end → Begin place bytes ts to rest → Begin place bytes us uo end → SameBegin ts us to uo rest end
-same_begin [] [] place bytes rest end to uo stuck utuck b c =
-    let same = same_gap b.0 c.0 rest end stuck.no_blank utuck.no_blank b.2 c.2 (sym b.1 ∙ c.1) in
+same_begin : (ts us : List Token) (place : ℕ) (bytes rest end : List ℕ) (to other_to : ℕ) → IsStuck rest → IsStuck end → Begin place bytes ts to rest → Begin place bytes us other_to end → SameBegin ts us to other_to rest end
+same_begin [] [] place bytes rest end to other_to stuck other_stuck b c =
+    let same = same_gap b.0 c.0 rest end stuck.no_blank other_stuck.no_blank b.2 c.2 (sym b.1 ∙ c.1) in
     record { same_tokens = refl; same_place = b.3 ∙ ap (λ g. place + length g) same.0 ∙ sym c.3; same_rest = same.1 }
-same_begin [] (u ∷ us) place bytes rest end to uo stuck utuck b c =
+same_begin [] (u ∷ us) place bytes rest end to other_to stuck other_stuck b c =
     let next = c.3 in
     let same = same_gap b.0 c.0 rest (c.1 ++ c.2) stuck.no_blank (no_blank_before c.1 c.2 (means_token u.kind c.1 next.means)) b.2 next.blanks (sym b.1 ∙ next.whole) in
     absurd (stuck.no_token u.kind c.1 c.2 same.1 next.means next.longest)
-same_begin (t ∷ ts) [] place bytes rest end to uo stuck utuck b c =
+same_begin (t ∷ ts) [] place bytes rest end to other_to stuck other_stuck b c =
     let next = b.3 in
-    let same = same_gap c.0 b.0 end (b.1 ++ b.2) utuck.no_blank (no_blank_before b.1 b.2 (means_token t.kind b.1 next.means)) c.2 next.blanks (sym c.1 ∙ next.whole) in
-    absurd (utuck.no_token t.kind b.1 b.2 same.1 next.means next.longest)
-same_begin (t ∷ ts) (u ∷ us) place bytes rest end to uo stuck utuck b c =
+    let same = same_gap c.0 b.0 end (b.1 ++ b.2) other_stuck.no_blank (no_blank_before b.1 b.2 (means_token t.kind b.1 next.means)) c.2 next.blanks (sym c.1 ∙ next.whole) in
+    absurd (other_stuck.no_token t.kind b.1 b.2 same.1 next.means next.longest)
+same_begin (t ∷ ts) (u ∷ us) place bytes rest end to other_to stuck other_stuck b c =
     let same = same_next b.3 c.3 in
     let at : place + length c.0 + length c.1 ≡ place + length b.0 + length b.1 = omega (arith, ap length same.same_blanks, ap length same.same_stretch) in
-    let P : ℕ → List ℕ → Type 0 = λ p l. Begin p l us uo end in
-    let moved : Begin (place + length b.0 + length b.1) b.2 us uo end = subst (λ p. P p b.2) at (subst (λ l. P (place + length c.0 + length c.1) l) (sym same.same_after) c.4) in
-    let later = same_begin ts us (place + length b.0 + length b.1) b.2 rest end to uo stuck utuck b.4 moved in
+    let P : ℕ → List ℕ → Type 0 = λ p l. Begin p l us other_to end in
+    let moved : Begin (place + length b.0 + length b.1) b.2 us other_to end = subst (λ p. P p b.2) at (subst (λ l. P (place + length c.0 + length c.1) l) (sym same.same_after) c.4) in
+    let later = same_begin ts us (place + length b.0 + length b.1) b.2 rest end to other_to stuck other_stuck b.4 moved in
     record { same_tokens = λ i. same.same_token i ∷ later.same_tokens i; same_place = later.same_place; same_rest = later.same_rest }
 
 -- one place has one fault

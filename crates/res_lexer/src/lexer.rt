@@ -216,7 +216,9 @@ fn read(alloc: Global, bytes: &[u8]) -> Result<Vec<Token>, LexError>
     Ok(tokens)
 }
 
-/// The tokens of a text in order, or the first place at which none can be read.
+/// The tokens of a text in order, or why the first place without one has none: `BadByte` where no token begins,
+/// `LongName` where a word of over 64 bytes stands, `BigLiteral` where a literal of over 1,000,000,000 does.
+/// There are no comments yet, so `OpenComment` never comes.
 pub fn tokens(alloc: Global, bytes: &[u8]) -> Result<Vec<Token>, LexError>
     requires { length bytes.now < 2 ^ 32 }
     ensures found { IfOk result (λ ts. AreTokens bytes.now ts.items) }
@@ -227,4 +229,82 @@ pub fn tokens(alloc: Global, bytes: &[u8]) -> Result<Vec<Token>, LexError>
     ensures refused_only { (e : LexError) → Refuses bytes.now e → MatchResult result (λ _. ⊥) (λ f. (f ≡ e) ⊎ (f ≡ LexError.NoMemory)) }
 {
     read(alloc, bytes)
+}
+
+#[cfg(test)]
+mod tests {
+    use super::*;
+    use std::test::Fail;
+
+    // The tokens, each by its place, its length and what it is, or the refusal.
+    fn shown(alloc: Global, text: &[u8]) -> Result<String, Fail> {
+        let mut line = String::new(alloc);
+        if text.len() > 1000 {
+            return Ok(line);
+        }
+        match tokens(alloc, text) {
+            Ok(tokens) => {
+                for token in &tokens {
+                    let at = token.at;
+                    let len = token.len;
+                    match &token.kind {
+                        TokenKind::Word(name) => {
+                            let bytes = name.bytes().len();
+                            write!(line, "{at}+{len} word {bytes}; ")?;
+                        }
+                        TokenKind::Literal(value) => write!(line, "{at}+{len} {value}; ")?,
+                        TokenKind::Symbol(number) => write!(line, "{at}+{len} #{number}; ")?,
+                    }
+                }
+            }
+            Err(error) => write!(line, "{error:?}")?,
+        }
+        Ok(line)
+    }
+
+    #[test]
+    fn shows_tokens(rt: HostRuntime) -> Result<(), Fail> {
+        let rows = [
+            (
+                "Write(1, Out);",
+                "0+5 word 5; 5+1 #12; 6+1 1; 7+1 #14; 9+3 word 3; 12+1 #13; 13+1 #15; ",
+            ),
+            ("a:=b", "0+1 word 1; 1+2 #2; 3+1 word 1; "),
+            (":=:", "0+3 #1; "),
+            ("12ab", "0+2 12; 2+2 word 2; "),
+            (
+                "<1> o <2>",
+                "0+1 #6; 1+1 1; 2+1 #7; 4+1 word 1; 6+1 #6; 7+1 2; 8+1 #7; ",
+            ),
+            ("x>=1", "0+1 word 1; 1+2 #4; 3+1 1; "),
+            ("a $", "BadByte { at: 2 }"),
+            ("/ ", "BadByte { at: 0 }"),
+            ("1000000001", "BigLiteral { at: 0 }"),
+            ("0000000001000000000", "0+19 1000000000; "),
+            (
+                "aaaaaaaaaaaaaaaaaaaaaaaaaaaaaaaaaaaaaaaaaaaaaaaaaaaaaaaaaaaaaaaaa",
+                "LongName { at: 0 }",
+            ),
+            (
+                "aaaaaaaaaaaaaaaaaaaaaaaaaaaaaaaaaaaaaaaaaaaaaaaaaaaaaaaaaaaaaaaa",
+                "0+64 word 64; ",
+            ),
+        ];
+        for (text, expected) in rows {
+            let line = shown(rt.alloc(), text.as_bytes())?;
+            assert_eq!(rt; line.as_str(), expected);
+        }
+        Ok(())
+    }
+
+    #[test]
+    fn copies_are_equal(rt: HostRuntime) -> Result<(), Fail> {
+        let tokens = tokens(rt.alloc(), b" x:=")?;
+        assert_eq!(rt; tokens.len(), 2);
+        let word = tokens[0].copy(rt.alloc())?;
+        assert_eq!(rt; word.at, 1);
+        assert!(rt; word.kind.is_word(b"x"));
+        assert!(rt; tokens[1].kind.copy(rt.alloc())?.is_symbol(2));
+        Ok(())
+    }
 }
