@@ -1,5 +1,5 @@
 -- The files of a shelf, as a map from names to bytes, where the shelf tells.
-use Rattle.std.specs.Prelude.{◌≡◌, ◌≢◌, ℕ, ◌<◌, ◌≤◌, Bool, List, [], length, Option, Some, None, Result, Ok, Err, IsTrue}
+use Rattle.std.specs.Prelude.{◌≡◌, ◌≢◌, ℕ, ◌<◌, ◌≤◌, List, [], length, Option, Some, None, Result, Ok, Err}
 use Rattle.edge_io.specs.declared.shelf.ShelfError.{ShelfError}
 use Rattle.edge_io.specs.declared.shelf.ShelfError.TheVariants.{NotFound, TooLong, Failed, NoMemory}
 

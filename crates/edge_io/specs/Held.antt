@@ -1,5 +1,5 @@
 -- What a source has left and what a sink holds, each where it tells: `None` is one that does not tell.
-use Rattle.std.specs.Prelude.{◌≡◌, ℕ, ◌+◌, ◌<◌, ◌≤◌, ◌↔◌, List, [], ◌++◌, length, take, drop, Option, Some, None}
+use Rattle.std.specs.Prelude.{◌≡◌, ℕ, ◌<◌, ◌≤◌, ◌↔◌, List, [], ◌++◌, length, take, drop, Option, Some, None}
 
 -- A sink took a piece: where it tells now it told before, and the piece was appended. One that does not tell never tells again.
 abbrev pub Grew : Option (List ℕ) → Option (List ℕ) → List ℕ → Type 0

@@ -1,0 +1,5 @@
+pub mod Machine
+pub mod Lines
+pub mod Runs
+pub mod Code
+pub mod Simulation

@@ -1,0 +1,7 @@
+//! The stack machine, the code of a linked program, and that the code does what the program means.
+#![tactic(auto)]
+
+mod image;
+
+pub use image::{Cell, Image, Instr, ProcInfo, Stop};
+pub use source_meaning::{Scalar, Spot, TypeForm};
