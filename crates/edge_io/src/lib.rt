@@ -1,8 +1,11 @@
 //! The outside: sources, sinks and shelves of files, in memory and of the system.
 #![tactic(auto)]
 
+mod calls;
 pub mod laws;
+mod left;
 pub mod listed;
+pub mod pairs;
 pub mod shelf;
 pub mod sink;
 pub mod source;
