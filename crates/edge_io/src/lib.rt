@@ -2,6 +2,7 @@
 #![tactic(auto)]
 
 mod calls;
+pub mod calm;
 pub mod laws;
 mod left;
 pub mod listed;

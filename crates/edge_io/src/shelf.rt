@@ -3,7 +3,11 @@
 ghost use Rattle.std.specs.Prelude.{◌≡◌, ◌<◌, ◌≤◌, ◌^◌, length, IsErrOf, IsTrue, OnOk, Some};
 ghost use Rattle.edge_io.specs.Faults.{Rose};
 
+use std::alloc::AllocError;
 use thiserror::Error;
+
+/// The most bytes of a file.
+pub const LONGEST_FILE: usize = 16_777_216;
 
 /// Why a shelf refused a call.
 #[derive(Debug, Drop, Error)]
@@ -16,6 +20,17 @@ pub enum ShelfError {
     Failed,
     #[error("out of memory")]
     NoMemory,
+}
+
+impl From<AllocError> for ShelfError {
+    ghost use Rattle.std.specs.Prelude.{◌≡◌};
+    ghost use Rattle.edge_io.specs.declared.shelf.ShelfError.TheVariants.{NoMemory};
+
+    ghost from_gives = { λ _ e. e ≡ NoMemory };
+
+    fn from(_refused: AllocError) -> ShelfError {
+        ShelfError::NoMemory
+    }
 }
 
 /// Files by name. A name is a path; a file has at most 16,777,216 bytes.
