@@ -1,6 +1,6 @@
 //! Sources, sinks and shelves in memory that never fail.
 
-ghost use Rattle.std.specs.Prelude.{◌≡◌, ◌≤◌, ◌+◌, [], Some, IfOk, IsErrOf, IsOk, OnErr, OnOk, drop, length, true};
+ghost use Rattle.std.specs.Prelude.{◌≡◌, ◌≤◌, ◌+◌, [], Some, IfOk, IsErrOf, IsFalse, IsOk, OnErr, OnOk, drop, length, true};
 ghost use Rattle.edge_io.specs.Files.{LeavesFew, ReadAnswers, SameOthers, WriteAnswers};
 ghost use Rattle.edge_io.specs.Held.{Grew, Took};
 ghost use Rattle.edge_io.specs.Memory.{files_of, told};
@@ -86,6 +86,7 @@ impl Sink for CalmSink {
     fn write(&mut self, bytes: &[u8]) -> Result<usize, Failed>
         ensures whole { result ≡ Ok (length bytes.now) }
         ensures appended { Grew (told self.old.tells self.old.held) (told self.new.tells self.new.held) bytes.now }
+        ensures refused { IsFalse self.new.tells → self.new.held ≡ self.old.held }
     {
         if self.tells {
             self.tells = self.held.extend_from_slice(bytes).is_ok();

@@ -6,6 +6,7 @@ pub mod calm;
 pub mod laws;
 mod left;
 pub mod listed;
+pub mod memory;
 pub mod pairs;
 pub mod shelf;
 pub mod sink;
