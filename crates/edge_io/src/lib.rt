@@ -1,6 +1,7 @@
 //! The outside: sources, sinks and shelves of files, in memory and of the system.
 #![tactic(auto)]
 
+pub mod adapters;
 mod calls;
 pub mod calm;
 pub mod laws;

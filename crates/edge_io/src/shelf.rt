@@ -3,6 +3,7 @@
 ghost use Rattle.std.specs.Prelude.{◌≡◌, ◌<◌, ◌≤◌, ◌^◌, length, IsErrOf, IsTrue, OnOk, Some};
 ghost use Rattle.edge_io.specs.Faults.{Rose};
 
+use crate::source::Failed;
 use std::alloc::AllocError;
 use thiserror::Error;
 
@@ -30,6 +31,17 @@ impl From<AllocError> for ShelfError {
 
     fn from(_refused: AllocError) -> ShelfError {
         ShelfError::NoMemory
+    }
+}
+
+impl From<Failed> for ShelfError {
+    ghost use Rattle.std.specs.Prelude.{◌≡◌};
+    ghost use Rattle.edge_io.specs.declared.shelf.ShelfError.TheVariants.{Failed};
+
+    ghost from_gives = { λ _ e. e ≡ Failed };
+
+    fn from(_failed: Failed) -> ShelfError {
+        ShelfError::Failed
     }
 }
 
