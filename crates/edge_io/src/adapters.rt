@@ -205,3 +205,55 @@ fn write_file<R: Files>(
         Err(_) => Err(ShelfError::Failed),
     }
 }
+
+#[cfg(test)]
+mod tests {
+    use super::*;
+    use std::env;
+    use std::io::Cursor;
+    use std::path::PathBuf;
+
+    #[test]
+    fn a_reader_is_a_source(rt: HostRuntime) -> Result<(), ShelfError> {
+        let mut source = StdSource::new(Cursor::new(b"abc"));
+        let mut buf = [0; 2];
+        assert_eq!(rt; source.read(&mut buf), Ok(2));
+        assert_eq!(rt; &buf, b"ab");
+        assert_eq!(rt; source.read(&mut buf), Ok(1));
+        assert_eq!(rt; source.read(&mut buf), Ok(0));
+        assert_eq!(rt; source.faults, 0);
+        Ok(())
+    }
+
+    #[test]
+    fn a_writer_is_a_sink(rt: HostRuntime) -> Result<(), ShelfError> {
+        let mut sink = StdSink::new(Vec::new(rt.alloc()));
+        write_all(&mut sink, b"abc")?;
+        assert_eq!(rt; sink.writer.as_slice(), b"abc".as_slice());
+        assert_eq!(rt; sink.faults, 0);
+        Ok(())
+    }
+
+    #[test]
+    fn a_folder_gives_back_what_was_written(rt: HostRuntime) -> io::Result<()> {
+        let folder = env::temp_dir(&rt)?.into_string();
+        let mut shelf = DirShelf::new(rt.alloc(), rt.clone()?, folder);
+        let mut into = Vec::new(rt.alloc());
+        assert!(rt; shelf.write("edge_io_test_file", b"abc").is_ok());
+        assert!(rt; shelf.read("edge_io_test_file", &mut into).is_ok());
+        assert_eq!(rt; into.as_slice(), b"abc".as_slice());
+        fs::remove_file(
+            &rt,
+            env::temp_dir(&rt)?.join(rt.alloc(), "edge_io_test_file")?,
+        )?;
+        assert!(rt;
+            matches!(
+                shelf.read("edge_io_test_file", &mut into),
+                Err(ShelfError::NotFound)
+            )
+        );
+        assert!(rt; matches!(shelf.read(".", &mut into), Err(ShelfError::Failed)));
+        assert_eq!(rt; shelf.faults, 1);
+        Ok(())
+    }
+}

@@ -134,3 +134,42 @@ impl Shelf for CalmShelf {
         pairs::write_file(&mut self.files, name, bytes)
     }
 }
+
+#[cfg(test)]
+mod tests {
+    use super::*;
+    use crate::sink::write_all;
+
+    #[test]
+    fn a_source_gives_its_bytes_in_pieces(rt: HostRuntime) -> Result<(), ShelfError> {
+        let mut source = CalmSource::new(vec![in rt.alloc(); 1, 2, 3]?);
+        let mut buf = [0; 2];
+        assert_eq!(rt; source.read(&mut buf), Ok(2));
+        assert_eq!(rt; source.read(&mut buf), Ok(1));
+        assert_eq!(rt; buf[0], 3);
+        assert_eq!(rt; source.read(&mut buf), Ok(0));
+        Ok(())
+    }
+
+    #[test]
+    fn a_sink_holds_what_was_written(rt: HostRuntime) -> Result<(), ShelfError> {
+        let mut sink = CalmSink::new(rt.alloc());
+        write_all(&mut sink, b"ab")?;
+        write_all(&mut sink, b"cd")?;
+        assert_eq!(rt; sink.held.as_slice(), b"abcd".as_slice());
+        assert!(rt; sink.tells);
+        Ok(())
+    }
+
+    #[test]
+    fn a_shelf_reads_what_was_written(rt: HostRuntime) -> Result<(), ShelfError> {
+        let mut shelf = CalmShelf::new(rt.alloc());
+        let mut into = Vec::new(rt.alloc());
+        shelf.write("a", b"one")?;
+        shelf.write("b", b"two")?;
+        shelf.read("a", &mut into)?;
+        assert_eq!(rt; into.as_slice(), b"one".as_slice());
+        assert!(rt; matches!(shelf.read("c", &mut into), Err(ShelfError::NotFound)));
+        Ok(())
+    }
+}

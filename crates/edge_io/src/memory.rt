@@ -215,3 +215,54 @@ impl Shelf for MemShelf {
         pairs::write_file(&mut self.files, name, bytes)
     }
 }
+
+#[cfg(test)]
+mod tests {
+    use super::*;
+    use crate::sink::write_all;
+
+    #[test]
+    fn a_source_gives_its_bytes_in_pieces(rt: HostRuntime) -> Result<(), ShelfError> {
+        let alloc = rt.alloc();
+        let mut source = MemSource::new(vec![in alloc; 1, 2, 3]?, vec![in alloc; 2]?);
+        let mut buf = [0; 2];
+        assert_eq!(rt; source.read(&mut buf), Ok(2));
+        assert_eq!(rt; buf, [1, 2]);
+        assert_eq!(rt; source.read(&mut buf), Err(Failed));
+        assert_eq!(rt; source.faults, 1);
+        assert_eq!(rt; source.read(&mut buf), Ok(1));
+        assert_eq!(rt; buf[0], 3);
+        assert_eq!(rt; source.read(&mut buf), Ok(0));
+        assert_eq!(rt; source.faults, 1);
+        Ok(())
+    }
+
+    #[test]
+    fn a_sink_holds_what_came_before_a_failed_write(rt: HostRuntime) -> Result<(), ShelfError> {
+        let alloc = rt.alloc();
+        let mut sink = MemSink::new(alloc, vec![in alloc; 2]?);
+        assert_eq!(rt; write_all(&mut sink, b"ab"), Ok(()));
+        assert_eq!(rt; write_all(&mut sink, b"cd"), Err(Failed));
+        assert_eq!(rt; sink.faults, 1);
+        assert_eq!(rt; write_all(&mut sink, b"ef"), Ok(()));
+        assert_eq!(rt; sink.held.as_slice(), b"abef".as_slice());
+        assert!(rt; sink.tells);
+        Ok(())
+    }
+
+    #[test]
+    fn a_shelf_reads_what_was_written(rt: HostRuntime) -> Result<(), ShelfError> {
+        let alloc = rt.alloc();
+        let mut shelf = MemShelf::new(alloc, vec![in alloc; 4]?);
+        let mut into = vec![in alloc; 9]?;
+        assert!(rt; matches!(shelf.read("a", &mut into), Err(ShelfError::NotFound)));
+        assert!(rt; into.is_empty());
+        shelf.write("a", b"one")?;
+        shelf.write("a", b"two")?;
+        assert!(rt; matches!(shelf.read("a", &mut into), Err(ShelfError::Failed)));
+        assert_eq!(rt; shelf.faults, 1);
+        shelf.read("a", &mut into)?;
+        assert_eq!(rt; into.as_slice(), b"two".as_slice());
+        Ok(())
+    }
+}
