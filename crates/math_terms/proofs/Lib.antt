@@ -1,0 +1,3 @@
+pub mod Folds
+pub mod Putting
+pub mod Counting
