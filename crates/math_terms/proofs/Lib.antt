@@ -1,3 +1,4 @@
 pub mod Folds
 pub mod Putting
 pub mod Counting
+pub mod Sameness

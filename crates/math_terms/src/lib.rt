@@ -2,6 +2,7 @@
 #![tactic(auto)]
 
 mod descriptor;
+mod laws;
 mod name;
 mod nodes;
 mod substitution;
@@ -9,6 +10,7 @@ mod term;
 mod value;
 
 pub use descriptor::{Desc, Shape, Sort, copy_descs, copy_sorts};
+pub use laws::{equality_is_sameness, substitution_keeps_values};
 pub use name::{Line, Name, NoMemory, RowName, TermError, VcName};
 pub use sqlite_items::{Boxed, Items};
 pub use substitution::substitute;
