@@ -1,0 +1,4 @@
+pub mod Folds
+pub mod Putting
+pub mod Counting
+pub mod Sameness

@@ -4,3 +4,4 @@ pub mod Meaning
 pub mod Descriptors
 pub mod Validity
 pub mod Plain
+pub mod Laws
