@@ -2,6 +2,8 @@
 #![tactic(auto)]
 
 mod image;
+mod operands;
+mod operators;
 
 pub use image::{Cell, Image, Instr, ProcInfo, Stop};
 pub use source_meaning::{Scalar, Spot, TypeForm};
