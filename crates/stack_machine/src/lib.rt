@@ -4,6 +4,7 @@
 mod image;
 mod operands;
 mod operators;
+mod running;
 
 pub use image::{Cell, Image, Instr, ProcInfo, Stop};
 pub use source_meaning::{Scalar, Spot, TypeForm};

@@ -3,8 +3,9 @@
 ghost use Rattle.std.specs.Prelude.{◌≡◌, ◌∷◌, ◌+ℤ◌, ◌-ℤ◌, ◌&&◌, ◌||◌, IsSome, OnOk, Some, int_lt, int_le};
 ghost use Rattle.source_meaning.specs.declared.linked.Scalar.{Scalar};
 ghost use Rattle.stack_machine.specs.Machine.{in_word, negated, on_alike, on_numbers, on_truths};
-ghost use Rattle.stack_machine.specs.Running.{HasNumber, HasTruth, HasTwoNumbers, HasTwoTruths};
+ghost use Rattle.stack_machine.specs.Running.{HasNumber, HasTruth, HasTwoNumbers, HasTwoTruths, operated};
 
+use crate::image::Instr;
 use crate::operands::Operands;
 use math_terms::NoMemory;
 use source_meaning::Scalar;
@@ -51,8 +52,26 @@ fn two_truths(operands: &mut Operands) -> (bool, bool)
     (left, right)
 }
 
-/// The sum of two numbers, within 64 bits.
-pub fn add(operands: &mut Operands) -> Result<(), NoMemory>
+/// An operator on the topmost operands.
+pub fn operate(operands: &mut Operands, instr: Instr) -> Result<(), NoMemory>
+    requires { IsSome (operated instr operands.old) }
+    ensures { OnOk result (operated instr operands.old ≡ Some operands.new) }
+{
+    match instr {
+        Instr::Add => add(operands),
+        Instr::Sub => sub(operands),
+        Instr::Eq => equal(operands),
+        Instr::Less => less(operands),
+        Instr::LessEq => less_or_equal(operands),
+        Instr::Not => negate(operands),
+        Instr::And => conjoin(operands),
+        Instr::Or => disjoin(operands),
+        _ => unreachable!(),
+    }
+}
+
+// The sum of two numbers, within 64 bits.
+fn add(operands: &mut Operands) -> Result<(), NoMemory>
     requires { IsSome (on_numbers (λ a b. in_word (a +ℤ b)) operands.old) }
     ensures { OnOk result (on_numbers (λ a b. in_word (a +ℤ b)) operands.old ≡ Some operands.new) }
 {
@@ -60,8 +79,8 @@ pub fn add(operands: &mut Operands) -> Result<(), NoMemory>
     operands.push(Scalar::Int(left + right))
 }
 
-/// The difference of two numbers, within 64 bits.
-pub fn sub(operands: &mut Operands) -> Result<(), NoMemory>
+// The difference of two numbers, within 64 bits.
+fn sub(operands: &mut Operands) -> Result<(), NoMemory>
     requires { IsSome (on_numbers (λ a b. in_word (a -ℤ b)) operands.old) }
     ensures { OnOk result (on_numbers (λ a b. in_word (a -ℤ b)) operands.old ≡ Some operands.new) }
 {
@@ -69,8 +88,8 @@ pub fn sub(operands: &mut Operands) -> Result<(), NoMemory>
     operands.push(Scalar::Int(left - right))
 }
 
-/// Whether the left number is less.
-pub fn less(operands: &mut Operands) -> Result<(), NoMemory>
+// Whether the left number is less.
+fn less(operands: &mut Operands) -> Result<(), NoMemory>
     requires { HasTwoNumbers operands.old }
     ensures { OnOk result (on_numbers (λ a b. Some (Scalar.Bool (int_lt a b))) operands.old ≡ Some operands.new) }
 {
@@ -78,8 +97,8 @@ pub fn less(operands: &mut Operands) -> Result<(), NoMemory>
     operands.push(Scalar::Bool(left < right))
 }
 
-/// Whether the left number is less, or both are equal.
-pub fn less_or_equal(operands: &mut Operands) -> Result<(), NoMemory>
+// Whether the left number is less, or both are equal.
+fn less_or_equal(operands: &mut Operands) -> Result<(), NoMemory>
     requires { HasTwoNumbers operands.old }
     ensures { OnOk result (on_numbers (λ a b. Some (Scalar.Bool (int_le a b))) operands.old ≡ Some operands.new) }
 {
@@ -87,8 +106,8 @@ pub fn less_or_equal(operands: &mut Operands) -> Result<(), NoMemory>
     operands.push(Scalar::Bool(left <= right))
 }
 
-/// Whether two numbers or two truth values are equal.
-pub fn equal(operands: &mut Operands) -> Result<(), NoMemory>
+// Whether two numbers or two truth values are equal.
+fn equal(operands: &mut Operands) -> Result<(), NoMemory>
     requires { IsSome (on_alike operands.old) }
     ensures { OnOk result (on_alike operands.old ≡ Some operands.new) }
 {
@@ -100,8 +119,8 @@ pub fn equal(operands: &mut Operands) -> Result<(), NoMemory>
     operands.push(Scalar::Bool(equal))
 }
 
-/// The other truth value.
-pub fn negate(operands: &mut Operands) -> Result<(), NoMemory>
+// The other truth value.
+fn negate(operands: &mut Operands) -> Result<(), NoMemory>
     requires { HasTruth operands.old }
     ensures { OnOk result (negated operands.old ≡ Some operands.new) }
 {
@@ -109,8 +128,8 @@ pub fn negate(operands: &mut Operands) -> Result<(), NoMemory>
     operands.push(Scalar::Bool(!truth))
 }
 
-/// Whether both truth values hold.
-pub fn conjoin(operands: &mut Operands) -> Result<(), NoMemory>
+// Whether both truth values hold.
+fn conjoin(operands: &mut Operands) -> Result<(), NoMemory>
     requires { HasTwoTruths operands.old }
     ensures { OnOk result (on_truths (λ a b. a && b) operands.old ≡ Some operands.new) }
 {
@@ -118,8 +137,8 @@ pub fn conjoin(operands: &mut Operands) -> Result<(), NoMemory>
     operands.push(Scalar::Bool(left && right))
 }
 
-/// Whether one of two truth values holds.
-pub fn disjoin(operands: &mut Operands) -> Result<(), NoMemory>
+// Whether one of two truth values holds.
+fn disjoin(operands: &mut Operands) -> Result<(), NoMemory>
     requires { HasTwoTruths operands.old }
     ensures { OnOk result (on_truths (λ a b. a || b) operands.old ≡ Some operands.new) }
 {
