@@ -8,7 +8,7 @@ use Rattle.stack_machine.specs.declared.image.Image.{Image}
 use Rattle.stack_machine.specs.declared.running.Running.{Running}
 use Rattle.stack_machine.specs.declared.running.Effect.{Effect}
 use Rattle.stack_machine.specs.declared.running.Effect.TheVariants.{Quiet, Wrote, Returned}
-use Rattle.stack_machine.specs.Machine.{Frame, State, act, on_numbers, on_truths, on_alike, negated, in_word}
+use Rattle.stack_machine.specs.Machine.{Frame, State, act, start, step_of, on_numbers, on_truths, on_alike, negated, in_word}
 
 abbrev pub HasNumber : List Scalar → Type 0
 HasNumber [] = ⊥
@@ -72,3 +72,14 @@ CanAct image input r i = IsSome (act image (frame_of image.main r) [] (drop r.ta
 
 abbrev pub Acts : Image → List ℤ → Running → Running → Instr → Effect → Type 0
 Acts image input old new i effect = (output : List ℤ) → act image (frame_of image.main old) [] (drop old.taken input) output i ≡ Some (state_after image.main input new output effect)
+
+-- the same for the instruction at the frame's place
+abbrev pub CanStep : Image → List ℤ → Running → Type 0
+CanStep image input r = IsSome (step_of image (frame_of image.main r ∷ []) (drop r.taken input) [])
+
+abbrev pub Steps : Image → List ℤ → Running → Running → Effect → Type 0
+Steps image input old new effect = (output : List ℤ) → step_of image (frame_of image.main old ∷ []) (drop old.taken input) output ≡ Some (state_after image.main input new output effect)
+
+-- the frame is that in which Main begins
+abbrev pub Begins : Image → Running → Type 0
+Begins image r = (input : List ℤ) → start image input ≡ Some (record { frames = frame_of image.main r ∷ []; input = input; output = [] })

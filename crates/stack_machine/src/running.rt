@@ -1,12 +1,13 @@
 //! The running frame, and what one instruction does to it.
 
-ghost use Rattle.std.specs.Prelude.{◌≡◌, ◌<◌, ◌^◌, ◌+◌, ◌≤◌, IfOk, IsSome, Some, drop, length, pos, slice_get};
+ghost use Rattle.std.specs.Prelude.{◌≡◌, ◌<◌, ◌^◌, ◌+◌, ◌≤◌, IfOk, IsSome, OnOk, Some, drop, length, pos, slice_get};
 ghost use Rattle.source_meaning.specs.declared.linked.Scalar.{Scalar};
 ghost use Rattle.stack_machine.specs.declared.image.Cell.{Cell};
 ghost use Rattle.stack_machine.specs.declared.image.Instr.{Instr};
 ghost use Rattle.stack_machine.specs.declared.running.Effect.{Effect};
 ghost use Rattle.stack_machine.specs.Machine.{cell_at, initial_cell, replaced, scalar_of, with_cell};
-ghost use Rattle.stack_machine.specs.Running.{Acts, CanAct, cell_of_scalar};
+ghost use Rattle.stack_machine.specs.Running.{Acts, Begins, CanAct, CanStep, Steps, cell_of_scalar};
+ghost use Rattle.stack_machine.specs.Runs.{HasMain};
 
 use crate::image::{Cell, Image, Instr};
 use crate::operands::Operands;
@@ -175,5 +176,76 @@ impl Running {
         ensures { result ≡ pos (length (drop self.now.taken input.now)) }
     {
         (input.len() - self.taken) as i64
+    }
+
+    // One instruction.
+    fn perform(&mut self, image: &Image, input: &[i64], instr: Instr) -> Result<Effect, NoMemory>
+        requires room { self.old.place + 1 < 2 ^ 64 }
+        requires taken { self.old.taken ≤ length input.now }
+        requires can { CanAct image.now input.now self.old instr }
+        ensures acts { IfOk result (λ effect. Acts image.now input.now self.old self.new instr effect) }
+        ensures taken { OnOk result (self.new.taken ≤ length input.now) }
+    {
+        match instr {
+            Instr::Push(scalar) => {
+                self.operands.push(scalar)?;
+                Ok(self.onward())
+            }
+            Instr::Load(spot) => {
+                let scalar = load(&self.locals, spot);
+                self.operands.push(scalar)?;
+                Ok(self.onward())
+            }
+            Instr::Store(spot) => Ok(self.settle(image, input, spot)),
+            Instr::Jump(to) => {
+                self.place = to as usize;
+                Ok(Effect::Quiet)
+            }
+            Instr::JumpFalse(to) => Ok(self.branch(image, input, to)),
+            Instr::Init(spot, number) => Ok(self.make(image, input, spot, number)),
+            Instr::Return => Ok(Effect::Returned),
+            Instr::ReadIn(spot) => Ok(self.read(image, input, spot)),
+            Instr::Remaining => {
+                let left = self.remaining(input);
+                self.operands.push(Scalar::Int(left))?;
+                Ok(self.onward())
+            }
+            Instr::WriteOut => Ok(self.write(image, input)),
+            Instr::Add | Instr::Sub | Instr::Eq | Instr::Less | Instr::LessEq | Instr::Not | Instr::And | Instr::Or => {
+                operators::operate(&mut self.operands, instr)?;
+                Ok(self.onward())
+            }
+        }
+    }
+
+    /// Where the run is not stuck, the instruction at the frame's place, and what it did.
+    pub fn step(&mut self, image: &Image, input: &[i64]) -> Result<Effect, NoMemory>
+        requires taken { self.old.taken ≤ length input.now }
+        requires can { CanStep image.now input.now self.old }
+        ensures steps { IfOk result (λ effect. Steps image.now input.now self.old self.new effect) }
+        ensures taken { OnOk result (self.new.taken ≤ length input.now) }
+    {
+        let code = image.code.as_slice();
+        self.perform(image, input, code[self.place])
+    }
+
+    /// The frame of Main at its start.
+    pub fn new(alloc: Global, image: &Image) -> Result<Running, NoMemory>
+        requires { HasMain image.now }
+        ensures begins { IfOk result (λ r. Begins image.now r) }
+        ensures taken { IfOk result (λ r. r.taken ≡ 0) }
+    {
+        let Some(main) = image.procs.get(image.main as usize) else {
+            unreachable!()
+        };
+        match vec![in alloc; Cell::Hole; main.locals as usize] {
+            Ok(locals) => Ok(Running {
+                place: main.start as usize,
+                locals: Items::from_vec(locals),
+                operands: Operands::new(alloc),
+                taken: 0,
+            }),
+            Err(_) => Err(NoMemory),
+        }
     }
 }
