@@ -8,6 +8,7 @@ use Rattle.stack_machine.specs.declared.image.Image.{Image}
 use Rattle.stack_machine.specs.declared.running.Running.{Running}
 use Rattle.stack_machine.specs.declared.running.Effect.{Effect}
 use Rattle.stack_machine.specs.declared.running.Effect.TheVariants.{Quiet, Wrote, Returned}
+use Rattle.stack_machine.specs.Lines.{line}
 use Rattle.stack_machine.specs.Machine.{Frame, State, act, start, step_of, on_numbers, on_truths, on_alike, negated, in_word}
 
 abbrev pub HasNumber : List Scalar → Type 0
@@ -83,3 +84,9 @@ Steps image input old new effect = (output : List ℤ) → step_of image (frame_
 -- the frame is that in which Main begins
 abbrev pub Begins : Image → Running → Type 0
 Begins image r = (input : List ℤ) → start image input ≡ Some (record { frames = frame_of image.main r ∷ []; input = input; output = [] })
+
+-- the bytes of what an instruction wrote
+abbrev pub text_of : Effect → List ℕ
+text_of Quiet = []
+text_of (Wrote n) = line n
+text_of Returned = []

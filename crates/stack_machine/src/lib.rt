@@ -2,9 +2,11 @@
 #![tactic(auto)]
 
 mod image;
+mod machine;
 mod operands;
 mod operators;
 mod running;
 
 pub use image::{Cell, Image, Instr, ProcInfo, Stop};
+pub use machine::run;
 pub use source_meaning::{Scalar, Spot, TypeForm};
