@@ -6,8 +6,8 @@ mod name;
 mod term;
 mod value;
 
-pub use descriptor::{Desc, Shape, Sort};
+pub use descriptor::{Desc, Shape, Sort, copy_descs, copy_sorts};
 pub use name::{Line, Name, NoMemory, RowName, TermError, VcName};
 pub use sqlite_items::{Boxed, Items};
-pub use term::{Formula, Term};
-pub use value::Value;
+pub use term::{Formula, Term, boxed, copy_terms};
+pub use value::{Value, copy_values};

@@ -2,12 +2,18 @@
 
 ghost use Rattle.std.specs.Prelude.{◌≡◌, ◌↔◌, IfOk, IsTrue};
 
-use std::alloc::{Global};
+use std::alloc::{AllocError, Global};
 use std::marker::Model;
 
 /// Memory has run out.
 #[derive(Clone, Copy, Debug, PartialEq, Eq)]
 pub struct NoMemory;
+
+impl From<AllocError> for NoMemory {
+    fn from(_error: AllocError) -> NoMemory {
+        NoMemory
+    }
+}
 
 /// A name: bytes, of any number.
 #[derive(Debug, Drop)]

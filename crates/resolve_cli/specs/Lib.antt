@@ -1,0 +1,6 @@
+pub mod Reserved
+pub mod Form
+pub mod Words
+pub mod Condition
+pub mod Texts
+pub mod Answer

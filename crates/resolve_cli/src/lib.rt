@@ -1,0 +1,7 @@
+//! The top call: words, files and input in, a status and bytes out.
+#![tactic(auto)]
+
+pub mod module;
+mod status;
+
+pub use status::Status;
