@@ -3,3 +3,4 @@ pub mod Lines
 pub mod Runs
 pub mod Code
 pub mod Simulation
+pub mod Running

@@ -2,6 +2,12 @@
 #![tactic(auto)]
 
 mod image;
+pub mod laws;
+mod machine;
+mod operands;
+mod operators;
+mod running;
 
 pub use image::{Cell, Image, Instr, ProcInfo, Stop};
+pub use machine::run;
 pub use source_meaning::{Scalar, Spot, TypeForm};
