@@ -1,8 +1,9 @@
 -- Evaluation: what each function of terms does to plain values.
-use Rattle.std.proofs.Common.{◌≡◌, ◌∙◌, sym, ap, refl, subst, ℕ, zero, suc, ◌+◌, ◌-◌, ◌^◌, ◌≤◌, min, ℤ, pos, negsuc, int_le, Bool, true, false, ◌&&◌, List, [], ◌∷◌, map, take, drop, length, FitsSigned, Option, Some, None, Result, Ok, Err, slice_get, slice_index_or, arith}
+use Rattle.std.proofs.Common.{◌≡◌, ◌∙◌, sym, ap, refl, subst, ℕ, zero, suc, ◌+◌, ◌-◌, ◌^◌, ◌≤◌, min, ℤ, pos, negsuc, int_le, Bool, true, false, ◌&&◌, List, [], ◌∷◌, ◌++◌, reverse, ◌↔◌, map, take, drop, length, FitsSigned, Option, Some, None, Result, Ok, Err, slice_get, slice_index_or, arith}
 use Rattle.std.proofs.lemmas.Bool.{and_parts, and_from, and_right, le-leb, leb-true}
-use Rattle.std.proofs.lemmas.List.{drop-take, take_min, drop_min, length-take}
+use Rattle.std.proofs.lemmas.List.{drop-take, take_min, drop_min, length-take, take-map, drop-map, map-append, reverse-append}
 use Rattle.std.specs.Int.{w128}
+use Rattle.std.specs.List.{list_all}
 use Rattle.math_terms.specs.declared.evaluation.Binary.{Binary}
 use Rattle.math_terms.specs.declared.evaluation.Unary.{Unary}
 use Rattle.math_terms.specs.declared.name.NoMemory.{NoMemory}
@@ -14,12 +15,12 @@ use Rattle.math_terms.specs.declared.value.Value.{Value}
 use Rattle.math_terms.specs.declared.value.Value.TheOpen.{Value-F}
 use Rattle.math_terms.specs.declared.value.Value.TheVariants.{Num as CodeNum, Truth as CodeTruth, Str, Tup, rolls-Num, rolls-Truth, rolls-Str, rolls-Tup}
 use Rattle.math_terms.specs.declared.value.Value.TheFolds.{fold-Value, fold-roll-Value}
-use Rattle.math_terms.specs.Values.{Val, Num, Truth, denotes, denotes_step, string, tuple, entries, parts, projected}
-use Rattle.math_terms.proofs.Sameness.{list_of-vals_of}
+use Rattle.math_terms.specs.Values.{Val, Num, Truth, denotes, denotes_step, string, tuple, number, entries, parts, place, between, projected}
+use Rattle.math_terms.proofs.Sameness.{list_of-vals_of, same_from_code}
 use Rattle.math_terms.specs.Meaning.{value_step}
 use Rattle.math_terms.specs.Descriptors.{nothing, zeros}
-use Rattle.math_terms.specs.Plain.{is_narrow, plain_step}
-use Rattle.math_terms.specs.Evaluating.{IsEvaluation, binary_node, plain, unary_node}
+use Rattle.math_terms.specs.Plain.{is_narrow, is_plain, plain_step}
+use Rattle.math_terms.specs.Evaluating.{IsEvaluation, binary_node, plain, plain_value, unary_node}
 
 -- the part of a list from one place to another, cut at its length
 pub between_is : {A : Type 0} (m n s e : ℕ) (xs : List A) → e ≡ min n (length xs) → s ≡ min m e → take (e - s) (drop s xs) ≡ drop m (take n xs)
@@ -146,3 +147,57 @@ pub at_node : (x : Term-F Term) (t : Term) (r : Result (Option Value) NoMemory) 
     IsEvaluation (plain_step (map-Term Term (Val × Bool) plain x)) r → IsEvaluation (plain t) r
 at_node x t r is h =
     subst (λ (k : Val × Bool). IsEvaluation k r) (sym (ap plain is ∙ fold-roll-Term (Val × Bool) plain_step x)) h
+
+-- what is answered for an equation
+pub equation_answer : (op : Binary) (u v : Value) (b : Bool) → op ≡ Binary.Eq → (b ≡ true) ↔ (u ≡ v) →
+    IsEvaluation (value_step nothing zeros (binary_node op (denotes u) (denotes v)), is_narrow (value_step nothing zeros (binary_node op (denotes u) (denotes v))))
+    (Ok (Some (CodeTruth b)))
+equation_answer op u v b is h =
+    subst (λ o. IsEvaluation (value_step nothing zeros (binary_node o (denotes u) (denotes v)), is_narrow (value_step nothing zeros (binary_node o (denotes u) (denotes v)))) (Ok (Some (CodeTruth b))))
+    (sym is) (refl, denotes_truth b ∙ ap (λ c. Truth c) (same_from_code b u v h))
+
+map-reverse : {A B : Type 0} (f : A → B) (xs : List A) → map f (reverse xs) ≡ reverse (map f xs)
+map-reverse f [] = refl
+map-reverse f (x ∷ xs) =
+    ap (map f) (reverse-append (x ∷ []) xs)
+    ∙ map-append f (reverse xs) (x ∷ [])
+    ∙ ap (λ ys. ys ++ (f x ∷ [])) (map-reverse f xs)
+    ∙ sym (reverse-append (f x ∷ []) (map f xs))
+
+-- what is answered for a reversed string
+pub reverse_answer : (op : Unary) (u : Value) (es rs : List Value) → op ≡ Unary.Reverse → map denotes es ≡ entries (denotes u) → rs ≡ reverse es →
+    IsEvaluation (value_step nothing zeros (unary_node op (denotes u)), is_narrow (value_step nothing zeros (unary_node op (denotes u)))) (Ok (Some (Str rs)))
+reverse_answer op u es rs is stand e =
+    subst (λ o. IsEvaluation (value_step nothing zeros (unary_node o (denotes u)), is_narrow (value_step nothing zeros (unary_node o (denotes u)))) (Ok (Some (Str rs))))
+    (sym is) (refl, denotes_string rs ∙ ap string (ap (map denotes) e ∙ map-reverse denotes es ∙ ap reverse stand))
+
+-- what is answered for a part of a string
+pub part_answer : (p q r : Val × Bool) (i j a : Value) (es bs : List Value) →
+    (p.1 ≡ true) × (denotes i ≡ p.0) → (q.1 ≡ true) × (denotes j ≡ q.0) → (r.1 ≡ true) × (denotes a ≡ r.0) →
+    map denotes es ≡ entries (denotes a) → bs ≡ drop (place (number (denotes i))) (take (place (number (denotes j))) es) →
+    IsEvaluation (plain_step (Term-F.Part p q r)) (Ok (Some (Str bs)))
+part_answer p q r i j a es bs e f g stand cut =
+    let m : ℕ = place (number (denotes i)) in
+    let n : ℕ = place (number (denotes j)) in (
+      (λ d. ((e.0 d && f.0 d) && g.0 d) && true),
+      denotes_string bs
+          ∙ ap string (ap (map denotes) cut ∙ sym (drop-map denotes m (take n es)) ∙ ap (drop m) (sym (take-map denotes n es)) ∙ ap (λ vs. drop m (take n vs)) stand)
+          ∙ (λ d. string (between (number (e.1 d)) (number (f.1 d)) (entries (g.1 d)))),
+    )
+
+passes_of : (ts : List Term) → list_all (λ b. b) (map (λ (k : Val × Bool). k.1) (map plain ts)) ≡ list_all is_plain ts
+passes_of [] = refl
+passes_of (t ∷ ts) = ap (λ b. is_plain t && b) (passes_of ts)
+
+values_of : (ts : List Term) → map (λ (k : Val × Bool). k.0) (map plain ts) ≡ map plain_value ts
+values_of [] = refl
+values_of (t ∷ ts) = ap (λ vs. plain_value t ∷ vs) (values_of ts)
+
+-- what is answered for a tuple
+pub tuple_answer : (ts : List Term) (out : List Value) → map denotes out ≡ map plain_value ts → list_all is_plain ts ≡ true →
+    IsEvaluation (plain_step (Term-F.Tuple (map plain ts))) (Ok (Some (Tup out)))
+tuple_answer ts out e h =
+    (ap (λ b. b && true) (passes_of ts ∙ h), denotes_tuple out ∙ ap tuple (e ∙ sym (values_of ts)))
+
+pub tuple_none : (ts : List Term) → list_all is_plain ts ≡ false → (plain_step (Term-F.Tuple (map plain ts))).1 ≡ false
+tuple_none ts h = ap (λ b. b && true) (passes_of ts ∙ h)

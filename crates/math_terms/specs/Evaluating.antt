@@ -16,6 +16,9 @@ use Rattle.math_terms.specs.Plain.{plain_step}
 abbrev pub plain : Term → Val × Bool
 plain t = fold-Term (Val × Bool) plain_step t
 
+abbrev pub plain_value : Term → Val
+plain_value t = (plain t).0
+
 -- what is answered for a term with this value that is plain or not; nothing is known where memory has run out
 abbrev pub IsEvaluation : Val × Bool → Result (Option Value) NoMemory → Type 0
 IsEvaluation p (Ok None) = p.1 ≡ false

@@ -17,7 +17,7 @@ use crate::operations::{
 };
 use crate::term::{Formula, Term};
 use crate::value::Value;
-use sqlite_items::Items;
+use sqlite_items::{Boxed, Items};
 use std::alloc::Global;
 
 /// The value of a term, or none where the term is not plain.
@@ -73,90 +73,97 @@ fn evaluate(alloc: Global, t: &Term) -> Evaluated
         Term::Add(a, b) => from_two(
             alloc,
             Binary::Add,
-            evaluate(alloc, a.get()),
-            evaluate(alloc, b.get()),
+            evaluate_boxed(alloc, a),
+            evaluate_boxed(alloc, b),
         ),
         Term::Sub(a, b) => from_two(
             alloc,
             Binary::Sub,
-            evaluate(alloc, a.get()),
-            evaluate(alloc, b.get()),
+            evaluate_boxed(alloc, a),
+            evaluate_boxed(alloc, b),
         ),
         Term::Mul(a, b) => from_two(
             alloc,
             Binary::Mul,
-            evaluate(alloc, a.get()),
-            evaluate(alloc, b.get()),
+            evaluate_boxed(alloc, a),
+            evaluate_boxed(alloc, b),
         ),
         Term::Div(a, b) => from_two(
             alloc,
             Binary::Div,
-            evaluate(alloc, a.get()),
-            evaluate(alloc, b.get()),
+            evaluate_boxed(alloc, a),
+            evaluate_boxed(alloc, b),
         ),
         Term::Mod(a, b) => from_two(
             alloc,
             Binary::Mod,
-            evaluate(alloc, a.get()),
-            evaluate(alloc, b.get()),
+            evaluate_boxed(alloc, a),
+            evaluate_boxed(alloc, b),
         ),
-        Term::Len(a) => from_one(alloc, Unary::Len, evaluate(alloc, a.get())),
+        Term::Len(a) => from_one(alloc, Unary::Len, evaluate_boxed(alloc, a)),
         Term::Empty => Ok(Some(Value::Str(Items::new(alloc)))),
-        Term::Single(a) => from_one(alloc, Unary::Single, evaluate(alloc, a.get())),
+        Term::Single(a) => from_one(alloc, Unary::Single, evaluate_boxed(alloc, a)),
         Term::Cat(a, b) => from_two(
             alloc,
             Binary::Cat,
-            evaluate(alloc, a.get()),
-            evaluate(alloc, b.get()),
+            evaluate_boxed(alloc, a),
+            evaluate_boxed(alloc, b),
         ),
-        Term::Reverse(a) => from_one(alloc, Unary::Reverse, evaluate(alloc, a.get())),
+        Term::Reverse(a) => from_one(alloc, Unary::Reverse, evaluate_boxed(alloc, a)),
         Term::Part(i, j, a) => part(
             alloc,
-            evaluate(alloc, i.get()),
-            evaluate(alloc, j.get()),
-            evaluate(alloc, a.get()),
+            evaluate_boxed(alloc, i),
+            evaluate_boxed(alloc, j),
+            evaluate_boxed(alloc, a),
         ),
         Term::Tuple(parts) => evaluate_tuple(alloc, parts.as_slice()),
-        Term::Proj(k, a) => projection(alloc, *k, evaluate(alloc, a.get())),
+        Term::Proj(k, a) => projection(alloc, *k, evaluate_boxed(alloc, a)),
         Term::Eq(a, b) => from_two(
             alloc,
             Binary::Eq,
-            evaluate(alloc, a.get()),
-            evaluate(alloc, b.get()),
+            evaluate_boxed(alloc, a),
+            evaluate_boxed(alloc, b),
         ),
         Term::Less(a, b) => from_two(
             alloc,
             Binary::Less,
-            evaluate(alloc, a.get()),
-            evaluate(alloc, b.get()),
+            evaluate_boxed(alloc, a),
+            evaluate_boxed(alloc, b),
         ),
         Term::LessEq(a, b) => from_two(
             alloc,
             Binary::LessEq,
-            evaluate(alloc, a.get()),
-            evaluate(alloc, b.get()),
+            evaluate_boxed(alloc, a),
+            evaluate_boxed(alloc, b),
         ),
-        Term::Not(a) => from_one(alloc, Unary::Not, evaluate(alloc, a.get())),
+        Term::Not(a) => from_one(alloc, Unary::Not, evaluate_boxed(alloc, a)),
         Term::And(a, b) => from_two(
             alloc,
             Binary::And,
-            evaluate(alloc, a.get()),
-            evaluate(alloc, b.get()),
+            evaluate_boxed(alloc, a),
+            evaluate_boxed(alloc, b),
         ),
         Term::Or(a, b) => from_two(
             alloc,
             Binary::Or,
-            evaluate(alloc, a.get()),
-            evaluate(alloc, b.get()),
+            evaluate_boxed(alloc, a),
+            evaluate_boxed(alloc, b),
         ),
         Term::Implies(a, b) => from_two(
             alloc,
             Binary::Implies,
-            evaluate(alloc, a.get()),
-            evaluate(alloc, b.get()),
+            evaluate_boxed(alloc, a),
+            evaluate_boxed(alloc, b),
         ),
         Term::Initial(_, _) => Ok(None),
     }
+}
+
+#[cycle(evaluate)]
+fn evaluate_boxed(alloc: Global, t: &Boxed<Term>) -> Evaluated
+    ensures { IsEvaluation (plain t.now) result }
+{
+    evaluate(alloc, t.get())
 }
 
 #[cycle(evaluate)]
