@@ -1,3 +1,5 @@
 pub mod TermValues
 pub mod Sound
 pub mod Machine
+pub mod Computing
+pub mod Growing

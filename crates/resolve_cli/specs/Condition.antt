@@ -113,9 +113,13 @@ IsValidCondition c = IsValid 0 (map (λ v. v.1) c.vars) c.hyps c.goal
 abbrev pub IsClosed : List Term → Term → Type 0
 IsClosed hyps goal = Contains hyps goal ⊎ ((t : Term) × (goal ≡ equal t t))
 
+-- A formula can be computed, and is true.
+abbrev pub IsTrueFormula : Term → Type 0
+IsTrueFormula f = (is_plain f ≡ true) × ((I : Interpretation) (w : Valuation) → IsTrue (holds I w f))
+
 -- With the empty string for the output the goal can be computed, and is true.
 abbrev pub IsComputed : Term → Type 0
-IsComputed goal = (is_plain (put 2 empty_string goal) ≡ true) × ((I : Interpretation) (w : Valuation) → IsTrue (holds I w (put 2 empty_string goal)))
+IsComputed goal = IsTrueFormula (put 2 empty_string goal)
 
 abbrev pub IsProved : Condition → Type 0
 IsProved c = IsClosed c.hyps c.goal ⊎ IsComputed c.goal
