@@ -4,5 +4,6 @@
 mod condition;
 pub mod module;
 mod status;
+pub mod words;
 
 pub use status::Status;
