@@ -1,5 +1,5 @@
 -- What the reader of the words keeps, and what it answers.
-use Rattle.std.specs.Prelude.{◌≡◌, ℕ, ◌<◌, Bool, true, false, List, [], ◌∷◌, length, Option, Some, None, slice_get, codes}
+use Rattle.std.specs.Prelude.{◌≡◌, ℕ, ◌<◌, Bool, true, false, List, [], ◌∷◌, length, Option, Some, None, codes, ◌||◌, ◌++◌}
 use Rattle.resolve_cli.specs.declared.words.Command.{Command}
 use Rattle.resolve_cli.specs.declared.words.Command.TheVariants as command
 use Rattle.resolve_cli.specs.declared.words.Verb.{Verb}
@@ -8,7 +8,10 @@ use Rattle.resolve_cli.specs.declared.words.OptionName.{OptionName}
 use Rattle.resolve_cli.specs.declared.words.OptionName.TheVariants.{Choice, Certs, Out, Steps}
 use Rattle.resolve_cli.specs.declared.words.Piece.{Piece}
 use Rattle.resolve_cli.specs.declared.words.Piece.TheVariants as piece
+use Rattle.resolve_cli.specs.declared.words.Options.{Options}
 use Rattle.resolve_cli.specs.declared.words.Summary.{Summary}
+use Rattle.std.specs.Borrow.{Bor}
+use Rattle.res_lexer.specs.Tokens.{same_bytes}
 use Rattle.resolve_cli.specs.Words as spec
 use Rattle.resolve_cli.specs.Words.{Word, is_among, all_differ, good_values, names_of, gathered, option_text}
 
@@ -46,22 +49,49 @@ abbrev pub is_empty : List (Word × Word) → Bool
 is_empty [] = true
 is_empty (o ∷ os) = false
 
--- The summary of these options and further words, of which the first stands among the words.
-pub record IsSummary (words : List Word) (os : List (Word × Word)) (fs : List Word) (s : Summary) : Type 0 where
-  pub choice : s.choice ≡ is_among (codes "choice") (names_of os)
-  pub certs : s.certs ≡ is_among (codes "certs") (names_of os)
-  pub out : s.out ≡ is_among (codes "out") (names_of os)
-  pub steps : s.steps ≡ is_among (codes "steps") (names_of os)
+abbrev pub has_option : Options → OptionName → Bool
+has_option s Choice = s.choice
+has_option s Certs = s.certs
+has_option s Out = s.out
+has_option s Steps = s.steps
+
+-- the options with one more
+pub record AddsOption (s : Options) (option : OptionName) (t : Options) : Type 0 where
+  pub choice : t.choice ≡ (s.choice || same_bytes (codes "choice") (option_word option))
+  pub certs : t.certs ≡ (s.certs || same_bytes (codes "certs") (option_word option))
+  pub out : t.out ≡ (s.out || same_bytes (codes "out") (option_word option))
+  pub steps : t.steps ≡ (s.steps || same_bytes (codes "steps") (option_word option))
+
+-- which of the options stand among these names
+pub record AreOptions (names : List Word) (s : Options) : Type 0 where
+  pub choice : s.choice ≡ is_among (codes "choice") names
+  pub certs : s.certs ≡ is_among (codes "certs") names
+  pub out : s.out ≡ is_among (codes "out") names
+  pub steps : s.steps ≡ is_among (codes "steps") names
+
+-- the first of the further words
+abbrev pub IsFirst : Option (Bor (List ℕ)) → List Word → Type 0
+IsFirst None fs = fs ≡ []
+IsFirst (Some f) fs = (others : List Word) × (fs ≡ f.now ∷ others)
+
+-- The summary of these options and further words.
+pub record IsSummary (os : List (Word × Word)) (fs : List Word) (s : Summary) : Type 0 where
+  pub options : AreOptions (names_of os) s.options
   pub differ : s.differ ≡ all_differ (names_of os)
   pub good : s.good ≡ good_values os
   pub plain : s.plain ≡ is_empty os
   pub further : s.further ≡ length fs
-  pub first : 0 < length fs → slice_get words s.first ≡ slice_get fs 0
+  pub first : IsFirst s.first fs
+
+-- options and further words before others
+abbrev pub prepended : List (Word × Word) → List Word → Option (List (Word × Word) × List Word) → Option (List (Word × Word) × List Word)
+prepended os fs None = None
+prepended os fs (Some r) = Some (os ++ r.0, fs ++ r.1)
 
 -- The answer sums up the options and further words of these words, if they have a reading.
 abbrev pub Gathers : List Word → List Word → Option Summary → Type 0
 Gathers names words None = gathered names None words ≡ None
-Gathers names words (Some s) = (os : List (Word × Word)) × (fs : List Word) × (gathered names None words ≡ Some (os, fs)) × IsSummary words os fs s
+Gathers names words (Some s) = (os : List (Word × Word)) × (fs : List Word) × (gathered names None words ≡ Some (os, fs)) × IsSummary os fs s
 
 -- The answer is the command that the words say.
 abbrev pub IsCommand : Option Command → List Word → Type 0

@@ -1,10 +1,11 @@
 //! The command line's words, and the command that they say.
 
-ghost use Rattle.std.specs.Prelude.{◌≡◌, ◌+◌, ◌^◌, ◌<◌, ◌≤◌, ◌↔◌, ◌&&◌, Bool, true, false, List, [], ◌∷◌, ◌++◌, map, length, Some, None, IsTrue, MatchOption, string_bytes, slice_get, nat_le, codes};
-ghost use Rattle.res_lexer.specs.Tokens.{same_bytes};
+ghost use Rattle.std.specs.Prelude.{◌≡◌, ◌+◌, ◌^◌, ◌<◌, ◌≤◌, ◌↔◌, ◌&&◌, Bool, true, false, List, [], ◌∷◌, ◌++◌, map, length, Some, None, IsTrue, MatchOption, string_bytes, slice_get, nat_le, codes, not, ◌==◌, if◌then◌else◌};
+ghost use Rattle.std.specs.List.{list_all, position_or_len};
+ghost use Rattle.res_lexer.specs.Tokens.{is_digit, same_bytes};
 ghost use Rattle.resolve_cli.specs.Words as spec;
 ghost use Rattle.resolve_cli.specs.Words.{Word};
-ghost use Rattle.resolve_cli.specs.Reading.{verb_word, option_word, options_for, IsPiece, IsSummary, Gathers, IsCommand};
+ghost use Rattle.resolve_cli.specs.Reading.{verb_word, option_word, options_for, has_option, AddsOption, IsPiece, IsSummary, Gathers, IsCommand};
 
 /// What the words say: to run one file, or something that has a written reading and is not built.
 #[derive(Clone, Copy, Debug)]
@@ -40,19 +41,32 @@ enum Piece<'a> {
     Waits(OptionName),
 }
 
-// The words so far: which options stand among them, whether they differ and have good values, whether there is
-// none, how many further words there are, and the place of the first of these.
+// Which options stand among the words so far.
 #[derive(Clone, Copy)]
-struct Summary {
+struct Options {
     choice: bool,
     certs: bool,
     out: bool,
     steps: bool,
+}
+
+// The words so far: their options, whether these differ, have good values, and are none at all; how many further
+// words there are, and the first of these.
+#[derive(Clone, Copy)]
+struct Summary<'a> {
+    options: Options,
     differ: bool,
     good: bool,
     plain: bool,
     further: usize,
-    first: usize,
+    first: Option<&'a str>,
+}
+
+// The words so far, and the option that waits for its value.
+#[derive(Clone, Copy)]
+struct State<'a> {
+    summary: Summary<'a>,
+    waiting: Option<OptionName>,
 }
 
 fn same_bytes(a: &[u8], b: &[u8]) -> bool
@@ -136,5 +150,182 @@ fn option_of(verb: Verb, text: &[u8]) -> Option<OptionName>
     match option_named(text) {
         Some(option) => if takes(verb, option) { Some(option) } else { None },
         None => None,
+    }
+}
+
+fn has_equals(text: &[u8]) -> bool
+    ensures { result ≡ spec.has_equals text.now }
+{
+    text.iter().any(|byte| *byte == b'=')
+}
+
+// The place of the first `=`, or the length where there is none.
+fn equals_place(text: &[u8]) -> usize
+    ensures { result ≡ position_or_len (λ b. b == 61) text.now }
+{
+    text.iter().take_while(|byte| **byte != b'=').count()
+}
+
+// An option with its value in one word.
+fn whole<'a>(verb: Verb, name: &[u8], value: &'a [u8]) -> Option<Piece<'a>>
+    ensures { IsPiece result (if spec.is_among name.now (options_for verb) && spec.is_value value.now then Some (spec.Whole name.now value.now) else None) }
+{
+    match option_of(verb, name) {
+        Some(option) => if is_value(value) { Some(Piece::Whole(option, value)) } else { None },
+        None => None,
+    }
+}
+
+#[tactic(auto, using(crate::proofs::Gathering::place_of_any))]
+fn option_piece(verb: Verb, text: &[u8]) -> Option<Piece<'_>>
+    ensures { IsPiece result (spec.option_piece (options_for verb) text.now) }
+{
+    if has_equals(text) {
+        let at = equals_place(text);
+        return whole(verb, &text[..at], &text[at + 1..]);
+    }
+    match option_of(verb, text) {
+        Some(option) => Some(Piece::Waits(option)),
+        None => None,
+    }
+}
+
+// What a word says where no option waits for its value.
+fn piece_of(verb: Verb, word: &[u8]) -> Option<Piece<'_>>
+    ensures { IsPiece result (spec.piece_of (options_for verb) word.now) }
+{
+    match option_text(word) {
+        Some(text) => option_piece(verb, text),
+        None => if is_value(word) { Some(Piece::Further) } else { None },
+    }
+}
+
+fn is_digit(byte: u8) -> bool
+    ensures { result ≡ is_digit byte }
+{
+    byte.is_ascii_digit()
+}
+
+fn is_first_digit(byte: u8) -> bool
+    ensures { result ≡ (is_digit byte && not (byte == 48)) }
+{
+    is_digit(byte) && byte != b'0'
+}
+
+fn all_digits(word: &[u8]) -> bool
+    ensures { result ≡ list_all is_digit word.now }
+{
+    word.iter().all(|byte| is_digit(*byte))
+}
+
+// Digits without a leading zero.
+fn is_number(word: &[u8]) -> bool
+    ensures { result ≡ spec.is_number word.now }
+{
+    match word {
+        [] => false,
+        [first, rest @ ..] => is_digit(*first) && *first != b'0' && all_digits(rest),
+    }
+}
+
+fn is_good_value(option: OptionName, value: &[u8]) -> bool
+    ensures { result ≡ spec.is_good_value (option_word option) value.now }
+{
+    match option {
+        OptionName::Steps => is_number(value) && value.len() <= 12,
+        OptionName::Choice | OptionName::Certs | OptionName::Out => true,
+    }
+}
+
+// A number from 1 to 64.
+fn is_gen_number(word: &[u8]) -> bool
+    ensures { result ≡ spec.is_gen_number word.now }
+{
+    match word {
+        [ones] => is_first_digit(*ones),
+        [tens, ones] => {
+            is_first_digit(*tens)
+                && is_digit(*ones)
+                && 10 * (*tens - b'0') + (*ones - b'0') <= 64
+        }
+        _ => false,
+    }
+}
+
+impl Options {
+    fn has(self, option: OptionName) -> bool
+        ensures { result ≡ has_option self option }
+    {
+        match option {
+            OptionName::Choice => self.choice,
+            OptionName::Certs => self.certs,
+            OptionName::Out => self.out,
+            OptionName::Steps => self.steps,
+        }
+    }
+
+    fn with(self, option: OptionName) -> Options
+        ensures { AddsOption self option result }
+    {
+        match option {
+            OptionName::Choice => Options { choice: true, ..self },
+            OptionName::Certs => Options { certs: true, ..self },
+            OptionName::Out => Options { out: true, ..self },
+            OptionName::Steps => Options { steps: true, ..self },
+        }
+    }
+}
+
+impl<'a> Summary<'a> {
+    // No words.
+    fn new() -> Summary<'a>
+        ensures none { IsSummary [] [] result }
+        ensures counted { result.further ≡ 0 }
+    {
+        Summary {
+            options: Options {
+                choice: false,
+                certs: false,
+                out: false,
+                steps: false,
+            },
+            differ: true,
+            good: true,
+            plain: true,
+            further: 0,
+            first: None,
+        }
+    }
+
+    // One more option.
+    fn with_option(self, option: OptionName, value: &[u8]) -> Summary<'a>
+        ensures more { (os : List (Word × Word)) (fs : List Word) → IsSummary os fs self.entry → IsSummary (os ++ (option_word option, value.now) ∷ []) fs result }
+        ensures counted { result.further ≡ self.entry.further }
+    {
+        let again = self.options.has(option);
+        let good = is_good_value(option, value);
+        Summary {
+            options: self.options.with(option),
+            differ: self.differ && !again,
+            good: self.good && good,
+            plain: false,
+            ..self
+        }
+    }
+
+    // One more further word.
+    fn with_further(self, word: &'a str) -> Summary<'a>
+        requires { self.further + 1 < 2 ^ 64 }
+        ensures more { (os : List (Word × Word)) (fs : List Word) → IsSummary os fs self.entry → IsSummary os (fs ++ word.now ∷ []) result }
+        ensures counted { result.further ≡ self.entry.further + 1 }
+    {
+        Summary {
+            further: self.further + 1,
+            first: match self.first {
+                Some(first) => Some(first),
+                None => Some(word),
+            },
+            ..self
+        }
     }
 }
