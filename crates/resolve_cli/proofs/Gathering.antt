@@ -4,10 +4,11 @@ use Rattle.std.proofs.lemmas.List.Folds.{list_any-append}
 use Rattle.std.proofs.lemmas.Bool.{cases_Bool, eqb-true, eqb-false, eq-eqb, true≢false}
 use Rattle.std.specs.List.{list_any, position_or_len}
 use Rattle.std.specs.Borrow.{Bor}
-use Rattle.std.specs.Prelude.{codes, ◌&&◌, ◌||◌, not, ◌==◌}
+use Rattle.std.specs.Prelude.{codes, if◌then◌else◌, ◌&&◌, ◌||◌, not, ◌==◌}
 use Rattle.res_lexer.specs.Tokens.{same_bytes}
-use Rattle.resolve_cli.specs.Words.{Word, is_among, all_differ, names_of, good_values, is_good_value, with_option, with_further}
-use Rattle.resolve_cli.specs.Reading.{option_word, has_option, AreOptions, AddsOption, IsFirst, IsSummary, is_empty, prepended}
+use Rattle.resolve_cli.specs.Words.{Word, is_among, all_differ, names_of, good_values, is_good_value, with_option, with_further, is_value, gathered, Piece, piece_of, with_piece}
+use Rattle.resolve_cli.specs.Reading.{option_word, has_option, AreOptions, AddsOption, IsFirst, IsSummary, is_empty, prepended, waiting_word, IsState}
+use Rattle.resolve_cli.specs.declared.words.State.{State}
 use Rattle.resolve_cli.specs.declared.words.Options.{Options}
 use Rattle.resolve_cli.specs.declared.words.Summary.{Summary}
 use Rattle.resolve_cli.specs.declared.words.OptionName.{OptionName}
@@ -121,3 +122,30 @@ summary-option os fs s t option value good is_good adds differ goods plain furth
   further = further ∙ sums.further;
   first = let F : Option (Bor (List ℕ)) → Type 0 = λ f. IsFirst f fs in subst F (sym first) sums.first;
 }
+
+-- `&&`, by its first part
+pub and-when : (r d h : Bool) → d ≡ true → r ≡ h → r ≡ (d && h)
+and-when r d h is e = let P : Bool → Type 0 = λ b. r ≡ (b && h) in subst P (sym is) e
+
+pub and-unless : (r d h : Bool) → d ≡ false → r ≡ d → r ≡ (d && h)
+and-unless r d h is e = let P : Bool → Type 0 = λ b. b ≡ (b && h) in e ∙ subst P (sym is) refl
+
+-- what a state with a waiting option says of the words, and what one without
+pub value-read : (names words rest : List Word) (w : Word) (s : State) (option : OptionName) → s.waiting ≡ Some option → (st : IsState names words (w ∷ rest) s) → gathered names None words ≡ prepended st.os st.fs (if is_value w then with_option (option_word option) w (gathered names None rest) else None)
+value-read names words rest w s option waits st =
+    let P : Option OptionName → Type 0 = λ o. gathered names None words ≡ prepended st.os st.fs (gathered names (waiting_word o) (w ∷ rest)) in subst P waits st.reads
+
+pub value-refused : (names words rest : List Word) (w : Word) (s : State) (option : OptionName) → s.waiting ≡ Some option → is_value w ≡ false → IsState names words (w ∷ rest) s → gathered names None words ≡ None
+value-refused names words rest w s option waits no st =
+    let P : Bool → Type 0 = λ b. gathered names None words ≡ prepended st.os st.fs (if b then with_option (option_word option) w (gathered names None rest) else None) in subst P no (value-read names words rest w s option waits st)
+
+pub value-taken : (names words rest : List Word) (w : Word) (s : State) (option : OptionName) → s.waiting ≡ Some option → is_value w ≡ true → (st : IsState names words (w ∷ rest) s) → gathered names None words ≡ prepended (st.os ++ ((option_word option, w) ∷ [])) st.fs (gathered names None rest)
+value-taken names words rest w s option waits yes st =
+    let P : Bool → Type 0 = λ b. gathered names None words ≡ prepended st.os st.fs (if b then with_option (option_word option) w (gathered names None rest) else None) in
+    subst P yes (value-read names words rest w s option waits st) ∙ prepended-option st.os st.fs (option_word option) w (gathered names None rest)
+
+pub piece-read : (names words rest : List Word) (w : Word) (s : State) (p : Option Piece) → s.waiting ≡ None → piece_of names w ≡ p → (st : IsState names words (w ∷ rest) s) → gathered names None words ≡ prepended st.os st.fs (with_piece p w (gathered names None rest) (λ name. gathered names (Some name) rest))
+piece-read names words rest w s p idle is st =
+    let P : Option OptionName → Type 0 = λ o. gathered names None words ≡ prepended st.os st.fs (gathered names (waiting_word o) (w ∷ rest)) in
+    let Q : Option Piece → Type 0 = λ p. gathered names None words ≡ prepended st.os st.fs (with_piece p w (gathered names None rest) (λ name. gathered names (Some name) rest)) in
+    subst Q is (subst P idle st.reads)

@@ -9,6 +9,7 @@ use Rattle.resolve_cli.specs.declared.words.OptionName.TheVariants.{Choice, Cert
 use Rattle.resolve_cli.specs.declared.words.Piece.{Piece}
 use Rattle.resolve_cli.specs.declared.words.Piece.TheVariants as piece
 use Rattle.resolve_cli.specs.declared.words.Options.{Options}
+use Rattle.resolve_cli.specs.declared.words.State.{State}
 use Rattle.resolve_cli.specs.declared.words.Summary.{Summary}
 use Rattle.std.specs.Borrow.{Bor}
 use Rattle.res_lexer.specs.Tokens.{same_bytes}
@@ -88,10 +89,38 @@ abbrev pub prepended : List (Word × Word) → List Word → Option (List (Word 
 prepended os fs None = None
 prepended os fs (Some r) = Some (os ++ r.0, fs ++ r.1)
 
+abbrev pub waiting_word : Option OptionName → Option Word
+waiting_word None = None
+waiting_word (Some option) = Some (option_word option)
+
+-- The words are these options and further words, and then what is still to read.
+pub record IsState (names words rest : List Word) (s : State) : Type 0 where
+  pub os : List (Word × Word)
+  pub fs : List Word
+  pub reads : gathered names None words ≡ prepended os fs (gathered names (waiting_word s.waiting) rest)
+  pub sums : IsSummary os fs s.summary
+
+-- after one more word
+abbrev pub StepsTo : List Word → List Word → List Word → Option State → Type 0
+StepsTo names words rest None = gathered names None words ≡ None
+StepsTo names words rest (Some s) = IsState names words rest s
+
+-- The options and further words that are summed up.
+pub record SumsUp (names words : List Word) (s : Summary) : Type 0 where
+  pub os : List (Word × Word)
+  pub fs : List Word
+  pub reads : gathered names None words ≡ Some (os, fs)
+  pub sums : IsSummary os fs s
+
 -- The answer sums up the options and further words of these words, if they have a reading.
 abbrev pub Gathers : List Word → List Word → Option Summary → Type 0
 Gathers names words None = gathered names None words ≡ None
-Gathers names words (Some s) = (os : List (Word × Word)) × (fs : List Word) × (gathered names None words ≡ Some (os, fs)) × IsSummary os fs s
+Gathers names words (Some s) = SumsUp names words s
+
+-- The answer is this command.
+abbrev pub Says : Command → spec.Command → Type 0
+Says (command.Run file) c = c ≡ spec.Run file.now
+Says command.Other c = c ≡ spec.Other
 
 -- The answer is the command that the words say.
 abbrev pub IsCommand : Option Command → List Word → Type 0

@@ -1,11 +1,11 @@
 //! The command line's words, and the command that they say.
 
-ghost use Rattle.std.specs.Prelude.{◌≡◌, ◌+◌, ◌^◌, ◌<◌, ◌≤◌, ◌↔◌, ◌&&◌, Bool, true, false, List, [], ◌∷◌, ◌++◌, map, length, Some, None, IsTrue, MatchOption, string_bytes, slice_get, nat_le, codes, not, ◌==◌, if◌then◌else◌};
+ghost use Rattle.std.specs.Prelude.{◌≡◌, ◌+◌, ◌^◌, ◌<◌, ◌≤◌, ◌↔◌, ◌&&◌, Bool, true, false, List, [], ◌∷◌, ◌++◌, map, length, Some, None, IsTrue, IfSome, MatchOption, string_bytes, slice_get, nat_le, codes, not, ◌==◌, if◌then◌else◌};
 ghost use Rattle.std.specs.List.{list_all, position_or_len};
 ghost use Rattle.res_lexer.specs.Tokens.{is_digit, same_bytes};
 ghost use Rattle.resolve_cli.specs.Words as spec;
 ghost use Rattle.resolve_cli.specs.Words.{Word};
-ghost use Rattle.resolve_cli.specs.Reading.{verb_word, option_word, options_for, has_option, AddsOption, IsPiece, IsSummary, Gathers, IsCommand};
+ghost use Rattle.resolve_cli.specs.Reading.{verb_word, option_word, options_for, has_option, AddsOption, IsPiece, IsSummary, IsState, StepsTo, Gathers, Says, IsCommand};
 
 /// What the words say: to run one file, or something that has a written reading and is not built.
 #[derive(Clone, Copy, Debug)]
@@ -327,5 +327,115 @@ impl<'a> Summary<'a> {
             },
             ..self
         }
+    }
+}
+
+impl<'a> State<'a> {
+    // The word after an option that waits for its value.
+    fn value(self, verb: Verb, option: OptionName, word: &'a str) -> Option<State<'a>>
+        requires { self.waiting ≡ Some option }
+        ensures state { (words rest : List Word) → IsState (options_for verb) words (word.now ∷ rest) self.entry → StepsTo (options_for verb) words rest result }
+        ensures counted { IfSome result (λ s. s.summary.further ≡ self.entry.summary.further) }
+    {
+        if !is_value(word.as_bytes()) {
+            return None;
+        }
+        Some(State {
+            summary: self.summary.with_option(option, word.as_bytes()),
+            waiting: None,
+        })
+    }
+
+    // A word where no option waits.
+    fn piece(self, verb: Verb, word: &'a str) -> Option<State<'a>>
+        requires idle { self.waiting ≡ None }
+        requires fits { self.summary.further + 1 < 2 ^ 64 }
+        ensures state { (words rest : List Word) → IsState (options_for verb) words (word.now ∷ rest) self.entry → StepsTo (options_for verb) words rest result }
+        ensures counted { IfSome result (λ s. s.summary.further ≤ self.entry.summary.further + 1) }
+    {
+        match piece_of(verb, word.as_bytes()) {
+            None => None,
+            Some(Piece::Further) => Some(State {
+                summary: self.summary.with_further(word),
+                waiting: None,
+            }),
+            Some(Piece::Whole(option, value)) => Some(State {
+                summary: self.summary.with_option(option, value),
+                waiting: None,
+            }),
+            Some(Piece::Waits(option)) => Some(State {
+                summary: self.summary,
+                waiting: Some(option),
+            }),
+        }
+    }
+
+    // One more word.
+    fn step(self, verb: Verb, word: &'a str) -> Option<State<'a>>
+        requires { self.summary.further + 1 < 2 ^ 64 }
+        ensures state { (words rest : List Word) → IsState (options_for verb) words (word.now ∷ rest) self.entry → StepsTo (options_for verb) words rest result }
+        ensures counted { IfSome result (λ s. s.summary.further ≤ self.entry.summary.further + 1) }
+    {
+        match self.waiting {
+            Some(option) => self.value(verb, option, word),
+            None => self.piece(verb, word),
+        }
+    }
+}
+
+// The options and further words of what follows the verb.
+fn gather(verb: Verb, words: &[String]) -> Option<Summary<'_>>
+    ensures { Gathers (options_for verb) (map string_bytes words.now) result }
+{
+    let mut state = State {
+        summary: Summary::new(),
+        waiting: None,
+    };
+    for word in words {
+        state = match state.step(verb, word) {
+            Some(next) => next,
+            None => return None,
+        };
+    }
+    match state.waiting {
+        Some(_) => None,
+        None => Some(state.summary),
+    }
+}
+
+// Whether there are 1 to 256 files, or for `gen` one number from 1 to 64.
+fn has_good_further(verb: Verb, summary: Summary<'_>) -> bool
+    ensures { (os : List (Word × Word)) (fs : List Word) → IsSummary os fs summary.entry → result ≡ spec.good_further (verb_word verb) fs }
+{
+    match summary.first {
+        None => false,
+        Some(first) => match verb {
+            Verb::Gen => summary.further == 1 && is_gen_number(first.as_bytes()),
+            Verb::Verify | Verb::Prove | Verb::Vcs | Verb::Code | Verb::Run => summary.further <= 256,
+        },
+    }
+}
+
+// The command of a verb with good options and further words.
+fn command_of<'a>(verb: Verb, summary: Summary<'a>) -> Command<'a>
+    ensures { (os : List (Word × Word)) (fs : List Word) → IsSummary os fs summary.entry → Says result (spec.command_of (record { verb = verb_word verb; options = os; further = fs })) }
+{
+    match (verb, summary.first) {
+        (Verb::Run, Some(file)) => if summary.plain && summary.further == 1 { Command::Run { file } } else { Command::Other },
+        _ => Command::Other,
+    }
+}
+
+/// The command that the words after the program's name say, or `None` where they have no written reading.
+pub fn read_command(words: &[String]) -> Option<Command<'_>>
+    ensures { IsCommand result (map string_bytes words.now) }
+{
+    let (first, rest) = words.split_first()?;
+    let verb = verb_named(first.as_bytes())?;
+    let summary = gather(verb, rest)?;
+    if summary.differ && summary.good && has_good_further(verb, summary) {
+        Some(command_of(verb, summary))
+    } else {
+        None
     }
 }
