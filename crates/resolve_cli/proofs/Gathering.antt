@@ -1,6 +1,7 @@
 -- Options and further words, one after the other.
-use Rattle.std.proofs.Common.{◌≡◌, ℕ, ◌+◌, Bool, true, false, eqb, List, [], ◌∷◌, ◌++◌, length, Option, Some, None, refl, sym, ap, subst, ◌∙◌, append_assoc, ◌⊎◌, ⊎_elim, ◌<◌, cond, arith, inl, inr}
+use Rattle.std.proofs.Common.{◌≡◌, ℕ, ◌+◌, Bool, true, false, eqb, List, [], ◌∷◌, ◌++◌, length, Option, Some, None, refl, sym, ap, subst, ◌∙◌, append_assoc, ◌⊎◌, ⊎_elim, ◌<◌, cond, arith, drop, drop-cons, get_or, map, add-one}
 use Rattle.std.proofs.lemmas.List.Folds.{list_any-append}
+use Rattle.std.proofs.lemmas.List.{get_or-map, length-map}
 use Rattle.std.proofs.lemmas.Bool.{cases_Bool, eqb-true, eqb-false, eq-eqb, true≢false}
 use Rattle.std.specs.List.{list_any, position_or_len}
 use Rattle.std.specs.Borrow.{Bor}
@@ -136,16 +137,26 @@ value-read names words rest w s option waits st =
     let P : Option OptionName → Type 0 = λ o. gathered names None words ≡ prepended st.os st.fs (gathered names (waiting_word o) (w ∷ rest)) in subst P waits st.reads
 
 pub value-refused : (names words rest : List Word) (w : Word) (s : State) (option : OptionName) → s.waiting ≡ Some option → is_value w ≡ false → IsState names words (w ∷ rest) s → gathered names None words ≡ None
-value-refused names words rest w s option waits no st =
-    let P : Bool → Type 0 = λ b. gathered names None words ≡ prepended st.os st.fs (if b then with_option (option_word option) w (gathered names None rest) else None) in subst P no (value-read names words rest w s option waits st)
+value-refused names words rest w s option waits failed st =
+    let P : Bool → Type 0 = λ b. gathered names None words ≡ prepended st.os st.fs (if b then with_option (option_word option) w (gathered names None rest) else None) in subst P failed (value-read names words rest w s option waits st)
 
 pub value-taken : (names words rest : List Word) (w : Word) (s : State) (option : OptionName) → s.waiting ≡ Some option → is_value w ≡ true → (st : IsState names words (w ∷ rest) s) → gathered names None words ≡ prepended (st.os ++ ((option_word option, w) ∷ [])) st.fs (gathered names None rest)
-value-taken names words rest w s option waits yes st =
+value-taken names words rest w s option waits passed st =
     let P : Bool → Type 0 = λ b. gathered names None words ≡ prepended st.os st.fs (if b then with_option (option_word option) w (gathered names None rest) else None) in
-    subst P yes (value-read names words rest w s option waits st) ∙ prepended-option st.os st.fs (option_word option) w (gathered names None rest)
+    subst P passed (value-read names words rest w s option waits st) ∙ prepended-option st.os st.fs (option_word option) w (gathered names None rest)
 
 pub piece-read : (names words rest : List Word) (w : Word) (s : State) (p : Option Piece) → s.waiting ≡ None → piece_of names w ≡ p → (st : IsState names words (w ∷ rest) s) → gathered names None words ≡ prepended st.os st.fs (with_piece p w (gathered names None rest) (λ name. gathered names (Some name) rest))
 piece-read names words rest w s p idle is st =
     let P : Option OptionName → Type 0 = λ o. gathered names None words ≡ prepended st.os st.fs (gathered names (waiting_word o) (w ∷ rest)) in
     let Q : Option Piece → Type 0 = λ p. gathered names None words ≡ prepended st.os st.fs (with_piece p w (gathered names None rest) (λ name. gathered names (Some name) rest)) in
     subst Q is (subst P idle st.reads)
+
+-- what is left of a list at a place, by the element that stands there
+pub rest-step : {A : Type 0} (f : A → Word) (xs : List A) (i : ℕ) (x : A) (w : Word) → i < length xs → x ≡ get_or xs i x → w ≡ f x → drop i (map f xs) ≡ w ∷ drop (i + 1) (map f xs)
+rest-step {A} f xs i x w below is shows =
+    let within : i < length (map f xs) = rw length-map below in
+    let front = drop-cons (map f xs) i (f x) within in
+    let at = get_or-map f xs i x (f x) below in
+    let same = ap f (sym is) in
+    let next = ap (λ n. drop n (map f xs)) (add-one i) in
+    cc

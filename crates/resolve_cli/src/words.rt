@@ -337,13 +337,15 @@ impl<'a> State<'a> {
         ensures state { (words rest : List Word) → IsState (options_for verb) words (word.now ∷ rest) self.entry → StepsTo (options_for verb) words rest result }
         ensures counted { IfSome result (λ s. s.summary.further ≡ self.entry.summary.further) }
     {
-        if !is_value(word.as_bytes()) {
-            return None;
+        let value = word.as_bytes();
+        if is_value(value) {
+            Some(State {
+                summary: self.summary.with_option(option, value),
+                waiting: None,
+            })
+        } else {
+            None
         }
-        Some(State {
-            summary: self.summary.with_option(option, word.as_bytes()),
-            waiting: None,
-        })
     }
 
     // A word where no option waits.
