@@ -116,13 +116,13 @@ summary-option os fs s t option value good is_good adds differ goods plain furth
     let names = names_of-append os (option_word option, value) in
     let P : List Word → Type 0 = λ ns. AreOptions ns t.options in
     record {
-  options = subst P (sym names) (options-append (names_of os) s.options t.options option sums.options adds);
-  differ = let has = has_option-is (names_of os) s.options option sums.options in let all = all_differ-append (names_of os) (option_word option) in let e = sums.differ in cc (ap all_differ names);
-  good = let e = sums.good in let all = good_values-append os (option_word option, value) in cc;
-  plain = plain ∙ sym (is_empty-append os (option_word option, value));
-  further = further ∙ sums.further;
-  first = let F : Option (Bor (List ℕ)) → Type 0 = λ f. IsFirst f fs in subst F (sym first) sums.first;
-}
+      options = subst P (sym names) (options-append (names_of os) s.options t.options option sums.options adds);
+      differ = let has = has_option-is (names_of os) s.options option sums.options in let all = all_differ-append (names_of os) (option_word option) in let e = sums.differ in cc (ap all_differ names);
+      good = let e = sums.good in let all = good_values-append os (option_word option, value) in cc;
+      plain = plain ∙ sym (is_empty-append os (option_word option, value));
+      further = further ∙ sums.further;
+      first = let F : Option (Bor (List ℕ)) → Type 0 = λ f. IsFirst f fs in subst F (sym first) sums.first;
+    }
 
 -- `&&`, by its first part
 pub and-when : (r d h : Bool) → d ≡ true → r ≡ h → r ≡ (d && h)

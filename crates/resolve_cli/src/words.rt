@@ -122,7 +122,10 @@ fn takes(verb: Verb, option: OptionName) -> bool
         Verb::Verify => matches!(option, OptionName::Certs),
         Verb::Prove => matches!(option, OptionName::Out),
         Verb::Code => matches!(option, OptionName::Choice | OptionName::Certs),
-        Verb::Run => matches!(option, OptionName::Choice | OptionName::Certs | OptionName::Steps),
+        Verb::Run => matches!(
+            option,
+            OptionName::Choice | OptionName::Certs | OptionName::Steps
+        ),
         Verb::Vcs | Verb::Gen => false,
     }
 }
@@ -148,7 +151,11 @@ fn option_of(verb: Verb, text: &[u8]) -> Option<OptionName>
     ensures { MatchOption result (spec.is_among text.now (options_for verb) ≡ false) (λ option. (spec.is_among text.now (options_for verb) ≡ true) × (text.now ≡ option_word option)) }
 {
     match option_named(text) {
-        Some(option) => if takes(verb, option) { Some(option) } else { None },
+        Some(option) => if takes(verb, option) {
+            Some(option)
+        } else {
+            None
+        },
         None => None,
     }
 }
@@ -171,8 +178,8 @@ fn whole<'a>(verb: Verb, name: &[u8], value: &'a [u8]) -> Option<Piece<'a>>
     ensures { IsPiece result (if spec.is_among name.now (options_for verb) && spec.is_value value.now then Some (spec.Whole name.now value.now) else None) }
 {
     match option_of(verb, name) {
-        Some(option) => if is_value(value) { Some(Piece::Whole(option, value)) } else { None },
-        None => None,
+        Some(option) if is_value(value) => Some(Piece::Whole(option, value)),
+        _ => None,
     }
 }
 
@@ -196,7 +203,11 @@ fn piece_of(verb: Verb, word: &[u8]) -> Option<Piece<'_>>
 {
     match option_text(word) {
         Some(text) => option_piece(verb, text),
-        None => if is_value(word) { Some(Piece::Further) } else { None },
+        None => if is_value(word) {
+            Some(Piece::Further)
+        } else {
+            None
+        },
     }
 }
 
@@ -244,9 +255,7 @@ fn is_gen_number(word: &[u8]) -> bool
     match word {
         [ones] => is_first_digit(*ones),
         [tens, ones] => {
-            is_first_digit(*tens)
-                && is_digit(*ones)
-                && 10 * (*tens - b'0') + (*ones - b'0') <= 64
+            is_first_digit(*tens) && is_digit(*ones) && 10 * (*tens - b'0') + (*ones - b'0') <= 64
         }
         _ => false,
     }
@@ -268,10 +277,19 @@ impl Options {
         ensures { AddsOption self option result }
     {
         match option {
-            OptionName::Choice => Options { choice: true, ..self },
-            OptionName::Certs => Options { certs: true, ..self },
+            OptionName::Choice => Options {
+                choice: true,
+                ..self
+            },
+            OptionName::Certs => Options {
+                certs: true,
+                ..self
+            },
             OptionName::Out => Options { out: true, ..self },
-            OptionName::Steps => Options { steps: true, ..self },
+            OptionName::Steps => Options {
+                steps: true,
+                ..self
+            },
         }
     }
 }
@@ -413,7 +431,8 @@ fn has_good_further(verb: Verb, summary: Summary<'_>) -> bool
         None => false,
         Some(first) => match verb {
             Verb::Gen => summary.further == 1 && is_gen_number(first.as_bytes()),
-            Verb::Verify | Verb::Prove | Verb::Vcs | Verb::Code | Verb::Run => summary.further <= 256,
+            Verb::Verify | Verb::Prove | Verb::Vcs | Verb::Code | Verb::Run => summary.further
+                <= 256,
         },
     }
 }
@@ -423,7 +442,11 @@ fn command_of<'a>(verb: Verb, summary: Summary<'a>) -> Command<'a>
     ensures { (os : List (Word × Word)) (fs : List Word) → IsSummary os fs summary.entry → Says result (spec.command_of (record { verb = verb_word verb; options = os; further = fs })) }
 {
     match (verb, summary.first) {
-        (Verb::Run, Some(file)) => if summary.plain && summary.further == 1 { Command::Run { file } } else { Command::Other },
+        (Verb::Run, Some(file)) => if summary.plain && summary.further == 1 {
+            Command::Run { file }
+        } else {
+            Command::Other
+        },
         _ => Command::Other,
     }
 }
@@ -439,5 +462,77 @@ pub fn read_command(words: &[String]) -> Option<Command<'_>>
         Some(command_of(verb, summary))
     } else {
         None
+    }
+}
+
+#[cfg(test)]
+mod tests {
+    use super::*;
+    use std::alloc::{AllocError, Global};
+
+    // What the words of a line say.
+    fn said(alloc: Global, line: &str) -> Result<&'static str, AllocError> {
+        let mut words = Vec::new(alloc);
+        for word in line.split_whitespace() {
+            words.push(String::from_str(alloc, word)?)?;
+        }
+        match read_command(&words) {
+            None => Ok("nothing"),
+            Some(Command::Other) => Ok("other"),
+            Some(Command::Run { file }) => {
+                if file == "a" {
+                    Ok("run a")
+                } else {
+                    Ok("run another")
+                }
+            }
+        }
+    }
+
+    #[test]
+    fn commands_are_read(rt: HostRuntime) -> Result<(), AllocError> {
+        for (line, want) in [
+            ("run a", "run a"),
+            ("run b", "run another"),
+            ("run --steps 5 a", "other"),
+            ("run a b", "other"),
+            ("run a --choice=b", "other"),
+            ("verify a", "other"),
+            ("vcs a", "other"),
+            ("gen 1", "other"),
+            ("gen 64", "other"),
+            ("run --steps 999999999999 a", "other"),
+            ("code --certs c a --choice=x=y", "other"),
+        ] {
+            assert_eq!(rt; said(rt.alloc(), line)?, want, "at {line}");
+        }
+        Ok(())
+    }
+
+    #[test]
+    fn other_words_say_nothing(rt: HostRuntime) -> Result<(), AllocError> {
+        for line in [
+            "",
+            "fly a",
+            "run",
+            "run --steps 0 a",
+            "run --steps 01 a",
+            "run --steps=1=2 a",
+            "run --steps 1000000000000 a",
+            "run --steps 5 --steps 6 a",
+            "run a --steps",
+            "run --choice= a",
+            "run --choice -b a",
+            "run -- a",
+            "run -a",
+            "run --help",
+            "vcs --choice b a",
+            "gen 0",
+            "gen 65",
+            "gen 1 2",
+        ] {
+            assert_eq!(rt; said(rt.alloc(), line)?, "nothing", "at {line}");
+        }
+        Ok(())
     }
 }
