@@ -3,3 +3,4 @@ pub mod Sound
 pub mod Machine
 pub mod Computing
 pub mod Growing
+pub mod Gathering

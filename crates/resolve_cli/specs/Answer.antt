@@ -1,5 +1,5 @@
 -- What a command answers: its status and the bytes for out, in the order of work.
-use Rattle.std.specs.Prelude.{◌≡◌, ℕ, ℤ, pos, ◌<◌, ◌≤◌, ◌⊎◌, Bool, true, false, List, [], ◌∷◌, ◌++◌, map, length, Option, Some, None, IsTrue, IsSome, option_map, codes}
+use Rattle.std.specs.Prelude.{◌≡◌, ℕ, ℤ, pos, ◌<◌, ◌≤◌, ◌⊎◌, Bool, true, false, List, [], ◌∷◌, ◌++◌, map, length, Option, Some, None, IsTrue, IsSome, codes}
 use Rattle.math_terms.specs.declared.name.Name.{Name}
 use Rattle.edge_io.specs.Files.{Files}
 use Rattle.edge_io.specs.Held.{Grew, GrewByPrefix}
@@ -20,7 +20,7 @@ use Rattle.resolve_cli.specs.declared.module.Literal.{Literal}
 use Rattle.resolve_cli.specs.declared.module.Form.{Form}
 use Rattle.resolve_cli.specs.declared.module.Module.{Module}
 use Rattle.resolve_cli.specs.Form.{number_of, Spells, IsNotYet}
-use Rattle.resolve_cli.specs.Words.{Word, read_words, Command, Run, Other, command_of}
+use Rattle.resolve_cli.specs.Words.{Word, read_words, Run, Other, command}
 use Rattle.resolve_cli.specs.Condition.{condition_of, IsValidCondition, IsProved, Allows}
 use Rattle.resolve_cli.specs.Texts.{lex_line, not_yet_line, unproved_line}
 
@@ -50,10 +50,6 @@ most_steps = 100000000
 
 abbrev pub most_component_bytes : ℕ
 most_component_bytes = 1048576
-
--- the command that the words say
-abbrev pub command : List Word → Option Command
-command words = option_map command_of (read_words words)
 
 -- The command runs a file, and these are its bytes, which are not too many.
 pub record Runs (words : List Word) (files : Files) (name bytes : List ℕ) : Type 0 where

@@ -1,6 +1,7 @@
 pub mod Reserved
 pub mod Form
 pub mod Words
+pub mod Reading
 pub mod Condition
 pub mod Texts
 pub mod Answer

@@ -1,5 +1,5 @@
 -- The written reading of the command line's words, as lists of bytes.
-use Rattle.std.specs.Prelude.{◌≡◌, ℕ, ◌+◌, ◌≤◌, nat_le, ◌==◌, Bool, true, false, not, ◌&&◌, ◌||◌, List, [], ◌∷◌, length, Option, Some, None, option_and_then, codes, if◌then◌else◌}
+use Rattle.std.specs.Prelude.{◌≡◌, ℕ, ◌+◌, ◌≤◌, nat_le, ◌==◌, Bool, true, false, not, ◌&&◌, ◌||◌, List, [], ◌∷◌, length, Option, Some, None, option_and_then, option_map, codes, if◌then◌else◌}
 use Rattle.std.specs.List.{list_all, list_any, before_first, after_first}
 use Rattle.std.specs.Str.Parse.{digits_value}
 use Rattle.res_lexer.specs.Tokens.{is_digit, same_bytes}
@@ -53,18 +53,38 @@ with_further w (Some r) = Some (r.0, w ∷ r.1)
 abbrev pub has_equals : Word → Bool
 has_equals w = list_any (λ b. b == 61) w
 
--- The options and further words of what follows the verb. An option is `--name` and one more word, or `--name=value`, the
--- name up to the first `=`. Where an option still waits for its value, its name is given.
+-- What a word says where no option waits for its value: it is a further word; it is an option with its value; or it
+-- is an option whose value is the next word.
+pub data Piece : Type 0 where
+  Further : Piece
+  Whole : Word → Word → Piece
+  Waits : Word → Piece
+
+-- An option is `--name` and one more word, or `--name=value`, the name up to the first `=`.
+abbrev pub option_piece : List Word → Word → Option Piece
+option_piece names text =
+    if has_equals text then (if is_among (before_first (λ b. b == 61) text) names && is_value (after_first (λ b. b == 61) text) then Some (Whole (before_first (λ b. b == 61) text) (after_first (λ b. b == 61) text)) else None) else (if is_among text names then Some (Waits text) else None)
+
+abbrev pub piece_at : List Word → Word → Option Word → Option Piece
+piece_at names w None = if is_value w then Some Further else None
+piece_at names w (Some text) = option_piece names text
+
+abbrev pub piece_of : List Word → Word → Option Piece
+piece_of names w = piece_at names w (option_text w)
+
+-- a word before the others, by what it says
+abbrev pub with_piece : Option Piece → Word → Option (List (Word × Word) × List Word) → (Word → Option (List (Word × Word) × List Word)) → Option (List (Word × Word) × List Word)
+with_piece None w rest waiting = None
+with_piece (Some Further) w rest waiting = with_further w rest
+with_piece (Some (Whole name value)) w rest waiting = with_option name value rest
+with_piece (Some (Waits name)) w rest waiting = waiting name
+
+-- The options and further words of what follows the verb. Where an option still waits for its value, its name is given.
 abbrev pub gathered : List Word → Option Word → List Word → Option (List (Word × Word) × List Word)
 gathered names None [] = Some ([], [])
 gathered names (Some name) [] = None
 gathered names (Some name) (w ∷ ws) = if is_value w then with_option name w (gathered names None ws) else None
-gathered names None (w ∷ ws) = gathered_at names (option_text w) w (gathered names None ws) (λ name. gathered names (Some name) ws)
-  where
-    gathered_at : List Word → Option Word → Word → Option (List (Word × Word) × List Word) → (Word → Option (List (Word × Word) × List Word)) → Option (List (Word × Word) × List Word)
-    gathered_at names None w rest waiting = if is_value w then with_further w rest else None
-    gathered_at names (Some text) w rest waiting =
-        if has_equals text then (if is_among (before_first (λ b. b == 61) text) names && is_value (after_first (λ b. b == 61) text) then with_option (before_first (λ b. b == 61) text) (after_first (λ b. b == 61) text) rest else None) else (if is_among text names then waiting text else None)
+gathered names None (w ∷ ws) = with_piece (piece_of names w) w (gathered names None ws) (λ name. gathered names (Some name) ws)
 
 abbrev pub all_differ : List Word → Bool
 all_differ [] = true
@@ -79,24 +99,31 @@ is_number (b ∷ bs) = is_digit b && not (b == 48) && list_all is_digit bs
 abbrev pub is_steps : Word → Bool
 is_steps w = is_number w && nat_le (length w) 12
 
+abbrev pub is_good_value : Word → Word → Bool
+is_good_value name value = not (same_bytes name (codes "steps")) || is_steps value
+
 abbrev pub good_values : List (Word × Word) → Bool
 good_values [] = true
-good_values (o ∷ os) = (not (same_bytes o.0 (codes "steps")) || is_steps o.1) && good_values os
+good_values (o ∷ os) = is_good_value o.0 o.1 && good_values os
+
+-- a number from 1 to 64
+abbrev pub is_gen_number : Word → Bool
+is_gen_number w = is_number w && nat_le (length w) 2 && nat_le (digits_value 10 w) 64
 
 -- 1 to 256 files, and for gen one number from 1 to 64
 abbrev pub good_further : Word → List Word → Bool
 good_further verb [] = false
 good_further verb (w ∷ ws) =
-    if same_bytes verb (codes "gen") then (nat_le (length ws) 0 && is_number w && nat_le (length w) 2 && nat_le (digits_value 10 w) 64) else nat_le (length ws) 255
+    if same_bytes verb (codes "gen") then (nat_le (length ws) 0 && is_gen_number w) else nat_le (length ws) 255
+
+abbrev pub names_of : List (Word × Word) → List Word
+names_of [] = []
+names_of (o ∷ os) = o.0 ∷ names_of os
 
 abbrev pub checked : Word → Option (List (Word × Word) × List Word) → Option Reading
 checked verb None = None
 checked verb (Some r) =
     if all_differ (names_of r.0) && good_values r.0 && good_further verb r.1 then Some (record { verb = verb; options = r.0; further = r.1 }) else None
-  where
-    names_of : List (Word × Word) → List Word
-    names_of [] = []
-    names_of (o ∷ os) = o.0 ∷ names_of os
 
 -- The first word is the verb.
 abbrev pub read_words : List Word → Option Reading
@@ -116,3 +143,7 @@ run_of (o ∷ os) ws = Other
 
 abbrev pub command_of : Reading → Command
 command_of r = if same_bytes r.verb (codes "run") then run_of r.options r.further else Other
+
+-- the command that the words say
+abbrev pub command : List Word → Option Command
+command words = option_map command_of (read_words words)

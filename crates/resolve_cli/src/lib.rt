@@ -8,5 +8,6 @@ mod notes;
 mod proving;
 mod status;
 mod texts;
+pub mod words;
 
 pub use status::Status;
