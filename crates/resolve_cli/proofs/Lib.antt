@@ -3,4 +3,5 @@ pub mod Sound
 pub mod Machine
 pub mod Computing
 pub mod Growing
+pub mod Ran
 pub mod Gathering

@@ -77,16 +77,32 @@ pub record Halts (m : Module) (written : List ℤ) : Type 0 where
   pub over : state.frames ≡ []
   pub output : state.output ≡ written
 
--- What a command answers over these files, in the order of work: a status, and the bytes for out. Where the file's
--- condition is proved, the machine runs on the empty input, and out gets the lines of its output.
+-- What a file's text answers, under the name of the file. Where its condition is proved, the machine runs on the empty
+-- input, and out gets the lines of its output.
+abbrev pub TextAnswers : List ℕ → List ℕ → Status → List ℕ → Type 0
+TextAnswers name bytes status.Done out = (m : Module) × (written : List ℤ) × Spells bytes m × IsProved (condition_of m) × Halts m written × (out ≡ lines written)
+TextAnswers name bytes (status.Refused line) out = IsRefusedWith name bytes line × (out ≡ [])
+TextAnswers name bytes status.BadWords out = ⊥
+TextAnswers name bytes status.NotBuilt out = ⊥
+TextAnswers name bytes (status.NotFound file) out = ⊥
+TextAnswers name bytes (status.FileTooLong file) out = ⊥
+TextAnswers name bytes status.ShelfFault out = ⊥
+TextAnswers name bytes status.SinkFault out = ⊥
+TextAnswers name bytes status.NoMemory out = ⊥
+
+-- a file that can be read answers as its text does
+abbrev pub FileAnswers : List Word → Files → Status → List ℕ → Type 0
+FileAnswers words files s out = (name : List ℕ) × (bytes : List ℕ) × Runs words files name bytes × TextAnswers name bytes s out
+
+-- What a command answers over these files, in the order of work: a status, and the bytes for out. Faults of the outside
+-- and want of memory are no answers.
 abbrev pub Answers : List Word → Files → Status → List ℕ → Type 0
 Answers words files status.BadWords out = (read_words words ≡ None) × (out ≡ [])
 Answers words files status.NotBuilt out = (command words ≡ Some Other) × (out ≡ [])
 Answers words files (status.NotFound name) out = (command words ≡ Some (Run name)) × (files name ≡ None) × (out ≡ [])
 Answers words files (status.FileTooLong name) out = (command words ≡ Some (Run name)) × (bytes : List ℕ) × (files name ≡ Some bytes) × (most_component_bytes < length bytes) × (out ≡ [])
-Answers words files (status.Refused line) out = (name : List ℕ) × (bytes : List ℕ) × Runs words files name bytes × IsRefusedWith name bytes line × (out ≡ [])
-Answers words files status.Done out = (name : List ℕ) × (bytes : List ℕ) × (m : Module) × (written : List ℤ) × Runs words files name bytes × Spells bytes m × IsProved (condition_of m) × Halts m written × (out ≡ lines written)
--- faults of the outside and want of memory are no answers
+Answers words files (status.Refused line) out = FileAnswers words files (status.Refused line) out
+Answers words files status.Done out = FileAnswers words files status.Done out
 Answers words files status.ShelfFault out = ⊥
 Answers words files status.SinkFault out = ⊥
 Answers words files status.NoMemory out = ⊥

@@ -124,6 +124,10 @@ IsComputed goal = IsTrueFormula (put 2 empty_string goal)
 abbrev pub IsProved : Condition → Type 0
 IsProved c = IsClosed c.hyps c.goal ⊎ IsComputed c.goal
 
+-- the same of a module's form, on which the hypotheses and the goal depend alone
+abbrev pub IsProvedForm : Form → Type 0
+IsProvedForm f = IsClosed hypotheses (goal_of f) ⊎ IsComputed (goal_of f)
+
 -- The values of Main's streams: the rest of the input and the output, and behind them the input and the empty output of the beginning.
 abbrev pub numbers : List ℤ → Val
 numbers ns = string (map Num ns)

@@ -1,13 +1,15 @@
 -- What the top call leaves: on out, on notes, and of the files.
-use Rattle.std.specs.Prelude.{◌≡◌, ℕ, ℤ, ◌⊎◌, List, [], ◌++◌, Option, Some, Bool, IsTrue}
+use Rattle.std.specs.Prelude.{◌≡◌, ℕ, ℤ, ◌⊎◌, List, [], ◌++◌, Option, Some, Bool, IsTrue, map}
 use Rattle.edge_io.specs.Faults.{Rose}
 use Rattle.edge_io.specs.Files.{Files, SameFiles}
 use Rattle.edge_io.specs.Held.{Grew, GrewByPrefix}
 use Rattle.stack_machine.specs.Lines.{lines}
 use Rattle.resolve_cli.specs.declared.status.Status.{Status}
 use Rattle.resolve_cli.specs.declared.status.Status.TheVariants as status
-use Rattle.resolve_cli.specs.Words.{Word, Run}
-use Rattle.resolve_cli.specs.Answer.{Answers, command, IsRight}
+use Rattle.resolve_cli.specs.Words.{Word, Run, command}
+use Rattle.resolve_cli.specs.Answer.{Answers, TextAnswers, IsRight}
+use Rattle.resolve_cli.specs.declared.module.Form.{Form}
+use Rattle.resolve_cli.specs.Form.{number_of}
 
 -- Notes got a text; where their own count of faults rose, some first bytes of it.
 abbrev pub Noted : Option (List ℕ) → Option (List ℕ) → ℕ → ℕ → List ℕ → Type 0
@@ -33,6 +35,36 @@ Answered words files status.BadWords old new = Got words files status.BadWords o
 Answered words files (status.NotFound name) old new = Got words files (status.NotFound name) old new
 Answered words files (status.FileTooLong name) old new = Got words files (status.FileTooLong name) old new
 Answered words files status.NotBuilt old new = Got words files status.NotBuilt old new
+
+-- The same of a file's text: its answer and the answer's bytes, or a prefix of them.
+abbrev pub GotText : List ℕ → List ℕ → Status → Option (List ℕ) → Option (List ℕ) → Type 0
+GotText name bytes s old new = (out : List ℕ) × TextAnswers name bytes s out × Grew old new out
+
+abbrev pub GotTextPrefix : List ℕ → List ℕ → Option (List ℕ) → Option (List ℕ) → Type 0
+GotTextPrefix name bytes old new = (s : Status) (out : List ℕ) → TextAnswers name bytes s out → GrewByPrefix old new out
+
+abbrev pub TextAnswered : List ℕ → List ℕ → Status → Option (List ℕ) → Option (List ℕ) → Type 0
+TextAnswered name bytes status.SinkFault old new = GotTextPrefix name bytes old new
+TextAnswered name bytes status.NoMemory old new = GotTextPrefix name bytes old new
+TextAnswered name bytes status.Done old new = GotText name bytes status.Done old new
+TextAnswered name bytes (status.Refused line) old new = GotText name bytes (status.Refused line) old new
+TextAnswered name bytes status.ShelfFault old new = ⊥
+TextAnswered name bytes status.BadWords old new = ⊥
+TextAnswered name bytes (status.NotFound file) old new = ⊥
+TextAnswered name bytes (status.FileTooLong file) old new = ⊥
+TextAnswered name bytes status.NotBuilt old new = ⊥
+
+-- what a run of a module's image leaves on out
+abbrev pub ModuleRan : Form → Status → Option (List ℕ) → Option (List ℕ) → Type 0
+ModuleRan f status.Done old new = Grew old new (lines (map number_of f.written))
+ModuleRan f status.SinkFault old new = GrewByPrefix old new (lines (map number_of f.written))
+ModuleRan f status.NoMemory old new = GrewByPrefix old new (lines (map number_of f.written))
+ModuleRan f (status.Refused line) old new = ⊥
+ModuleRan f status.ShelfFault old new = ⊥
+ModuleRan f status.BadWords old new = ⊥
+ModuleRan f (status.NotFound file) old new = ⊥
+ModuleRan f (status.FileTooLong file) old new = ⊥
+ModuleRan f status.NotBuilt old new = ⊥
 
 -- The files that the call saw are the shelf's, where it tells.
 abbrev pub Saw : Bool → Files → Files → Type 0

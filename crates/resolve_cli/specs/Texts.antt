@@ -38,26 +38,14 @@ unproved_kind name = codes "Unproved " ++ (name ++ codes ".Main.1 ensures")
 abbrev pub unproved_line : List ℕ → ℕ → List ℕ
 unproved_line name at = refused_line name (unproved_kind name) at
 
--- the line of a status, and nothing where the command was carried out
-abbrev pub note_line : Status → List ℕ
-note_line status.Done = []
-note_line (status.Refused line) = line
-note_line status.BadWords = codes "bad words"
-note_line (status.NotFound name) = codes "not found: " ++ name
-note_line status.ShelfFault = codes "shelf fault"
-note_line status.SinkFault = codes "sink fault"
-note_line status.NoMemory = codes "no memory"
-note_line (status.FileTooLong name) = codes "file too long: " ++ name
-note_line status.NotBuilt = codes "not built"
-
--- what notes grows by: the line and LF
+-- What notes grows by: the line of the status and LF, and nothing where the command was carried out.
 abbrev pub note_of : Status → List ℕ
 note_of status.Done = []
 note_of (status.Refused line) = line ++ 10 ∷ []
-note_of status.BadWords = note_line status.BadWords ++ 10 ∷ []
-note_of (status.NotFound name) = note_line (status.NotFound name) ++ 10 ∷ []
-note_of status.ShelfFault = note_line status.ShelfFault ++ 10 ∷ []
-note_of status.SinkFault = note_line status.SinkFault ++ 10 ∷ []
-note_of status.NoMemory = note_line status.NoMemory ++ 10 ∷ []
-note_of (status.FileTooLong name) = note_line (status.FileTooLong name) ++ 10 ∷ []
-note_of status.NotBuilt = note_line status.NotBuilt ++ 10 ∷ []
+note_of status.BadWords = codes "bad words" ++ 10 ∷ []
+note_of (status.NotFound name) = codes "not found: " ++ (name ++ 10 ∷ [])
+note_of status.ShelfFault = codes "shelf fault" ++ 10 ∷ []
+note_of status.SinkFault = codes "sink fault" ++ 10 ∷ []
+note_of status.NoMemory = codes "no memory" ++ 10 ∷ []
+note_of (status.FileTooLong name) = codes "file too long: " ++ (name ++ 10 ∷ [])
+note_of status.NotBuilt = codes "not built" ++ 10 ∷ []

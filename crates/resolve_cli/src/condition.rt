@@ -68,8 +68,8 @@ fn claim(alloc: Global, claimed: &[Literal]) -> Result<Term, NoMemory>
     }
 }
 
-// That the output at the end is what is claimed.
-fn goal(alloc: Global, form: &Form) -> Result<Term, NoMemory>
+/// That the output at the end is what is claimed.
+pub fn goal(alloc: Global, form: &Form) -> Result<Term, NoMemory>
     requires claimed { All IsSmallLiteral form.now.claimed }
     requires written { All IsSmallLiteral form.now.written }
     ensures { IfOk result (λ t. t ≡ spec.goal_of form.now) }
@@ -79,7 +79,7 @@ fn goal(alloc: Global, form: &Form) -> Result<Term, NoMemory>
     equal(alloc, at_end, right)
 }
 
-// The hypotheses: the bounds of integers, and that Main begins with an empty output.
+// The least integer is low enough for every literal.
 fn least(alloc: Global) -> Result<Term, NoMemory>
     ensures { IfOk result (λ t. t ≡ spec.least) }
 {
@@ -122,7 +122,8 @@ fn bounds(alloc: Global) -> Result<Items<Term>, NoMemory>
     with(terms, greatest(alloc)?)
 }
 
-fn hypotheses(alloc: Global) -> Result<Items<Term>, NoMemory>
+/// The hypotheses: the bounds of integers, and that Main begins with an empty output.
+pub fn hypotheses(alloc: Global) -> Result<Items<Term>, NoMemory>
     ensures { IfOk result (λ ts. ts ≡ spec.hypotheses) }
 {
     let terms = bounds(alloc)?;

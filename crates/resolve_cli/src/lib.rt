@@ -6,6 +6,7 @@ mod condition;
 pub mod module;
 mod notes;
 mod proving;
+mod running;
 mod status;
 mod texts;
 pub mod words;

@@ -40,3 +40,22 @@ fn write_rest<N: Sink>(notes: &mut N, name: &[u8]) -> Result<(), Failed>
     write_all(notes, name)?;
     write_all(notes, b"\n")
 }
+
+/// Writes the line of a status, and nothing where the command was carried out. This takes no memory.
+pub fn write_note<N: Sink>(notes: &mut N, status: &Status)
+    ensures { Noted (N.held notes.old) (N.held notes.new) (N.faults notes.old) (N.faults notes.new) (note_of status.now) }
+{
+    unchanged();
+    let written = match status {
+        Status::Done => Ok(()),
+        Status::Refused { line } => write_rest(notes, line.bytes()),
+        Status::BadWords => write_rest(notes, b"bad words"),
+        Status::NotFound { name } => write_line(notes, b"not found: ", name.bytes()),
+        Status::ShelfFault => write_rest(notes, b"shelf fault"),
+        Status::SinkFault => write_rest(notes, b"sink fault"),
+        Status::NoMemory => write_rest(notes, b"no memory"),
+        Status::FileTooLong { name } => write_line(notes, b"file too long: ", name.bytes()),
+        Status::NotBuilt => write_rest(notes, b"not built"),
+    };
+    let _ = written;
+}
