@@ -1,6 +1,6 @@
 //! The command line's words, and the command that they say.
 
-ghost use Rattle.std.specs.Prelude.{◌≡◌, ◌+◌, ◌^◌, ◌<◌, ◌≤◌, ◌↔◌, ◌&&◌, Bool, true, false, List, [], ◌∷◌, ◌++◌, map, length, Some, None, IsTrue, IfSome, MatchOption, string_bytes, slice_get, nat_le, codes, not, ◌==◌, if◌then◌else◌};
+ghost use Rattle.std.specs.Prelude.{◌≡◌, ◌+◌, ◌^◌, ◌<◌, ◌≤◌, ◌↔◌, ◌&&◌, true, false, List, [], ◌∷◌, ◌++◌, map, Some, None, IsTrue, IfSome, MatchOption, string_bytes, codes, not, ◌==◌, if◌then◌else◌};
 ghost use Rattle.std.specs.List.{list_all, position_or_len};
 ghost use Rattle.res_lexer.specs.Tokens.{is_digit, same_bytes};
 ghost use Rattle.resolve_cli.specs.Words as spec;
