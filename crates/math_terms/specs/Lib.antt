@@ -5,3 +5,4 @@ pub mod Descriptors
 pub mod Validity
 pub mod Plain
 pub mod Laws
+pub mod Evaluating

@@ -2,14 +2,17 @@
 #![tactic(auto)]
 
 mod descriptor;
+mod evaluation;
 mod laws;
 mod name;
 mod nodes;
+mod operations;
 mod substitution;
 mod term;
 mod value;
 
 pub use descriptor::{Desc, Shape, Sort, copy_descs, copy_sorts};
+pub use evaluation::truth;
 pub use laws::{equality_is_sameness, substitution_keeps_values};
 pub use name::{Line, Name, NoMemory, RowName, TermError, VcName};
 pub use sqlite_items::{Boxed, Items};

@@ -6,10 +6,12 @@ use Rattle.edge_io.specs.Held.{Grew, GrewByPrefix}
 use Rattle.res_lexer.specs.declared.token.LexError.{LexError}
 use Rattle.res_lexer.specs.Tokens.{Refuses}
 use Rattle.source_meaning.specs.declared.linked.Scalar.{Scalar}
+use Rattle.source_meaning.specs.declared.linked.TypeForm.{TypeForm}
 use Rattle.source_meaning.specs.declared.linked.TypeForm.TheVariants as type
 use Rattle.stack_machine.specs.declared.image.Instr.{Instr}
 use Rattle.stack_machine.specs.declared.image.Instr.TheVariants as instr
 use Rattle.stack_machine.specs.declared.image.Image.{Image}
+use Rattle.stack_machine.specs.declared.image.ProcInfo.{ProcInfo}
 use Rattle.stack_machine.specs.Machine.{State, after}
 use Rattle.stack_machine.specs.Lines.{lines}
 use Rattle.resolve_cli.specs.declared.status.Status.{Status}
@@ -27,11 +29,17 @@ abbrev pub writes_code : List Literal → List Instr
 writes_code [] = []
 writes_code (l ∷ ls) = instr.Push (Scalar.Int (number_of l)) ∷ instr.WriteOut ∷ writes_code ls
 
+abbrev pub scalar_types : List TypeForm
+scalar_types = type.Int ∷ type.Bool ∷ []
+
+abbrev pub main_procedure : ProcInfo
+main_procedure = record { name = codes "Main"; start = 0; given = []; result = false; locals = 0 }
+
 -- the image of a module
 abbrev pub image_of : Form → Image
 image_of f = record {
-  types = type.Int ∷ type.Bool ∷ [];
-  procs = record { name = codes "Main"; start = 0; given = []; result = false; locals = 0 } ∷ [];
+  types = scalar_types;
+  procs = main_procedure ∷ [];
   code = writes_code f.written ++ instr.Return ∷ [];
   main = 0;
 }

@@ -7,9 +7,9 @@ use Rattle.math_terms.specs.declared.term.Term.TheViews.{roll-Term}
 use Rattle.math_terms.specs.declared.descriptor.Desc.{Desc}
 use Rattle.math_terms.specs.declared.descriptor.Shape.TheOpen.{Shape-F}
 use Rattle.math_terms.specs.declared.descriptor.Shape.TheViews.{roll-Shape, roll-Desc}
-use Rattle.math_terms.specs.Values.{Val, Num, string, truth}
-use Rattle.math_terms.specs.Meaning.{Valuation, set_to, value_where}
-use Rattle.math_terms.specs.Descriptors.{nothing, zeros}
+use Rattle.math_terms.specs.Values.{Val, Num, string}
+use Rattle.math_terms.specs.Meaning.{Valuation, set_to}
+use Rattle.math_terms.specs.Descriptors.{Interpretation, holds, zeros}
 use Rattle.math_terms.specs.Terms.{put}
 use Rattle.math_terms.specs.Plain.{is_plain}
 use Rattle.math_terms.specs.Validity.{IsValid}
@@ -113,9 +113,13 @@ IsValidCondition c = IsValid 0 (map (λ v. v.1) c.vars) c.hyps c.goal
 abbrev pub IsClosed : List Term → Term → Type 0
 IsClosed hyps goal = Contains hyps goal ⊎ ((t : Term) × (goal ≡ equal t t))
 
+-- A formula can be computed, and is true.
+abbrev pub IsTrueFormula : Term → Type 0
+IsTrueFormula f = (is_plain f ≡ true) × ((I : Interpretation) (w : Valuation) → IsTrue (holds I w f))
+
 -- With the empty string for the output the goal can be computed, and is true.
 abbrev pub IsComputed : Term → Type 0
-IsComputed goal = (is_plain (put 2 empty_string goal) ≡ true) × (truth (value_where nothing zeros (put 2 empty_string goal)) ≡ true)
+IsComputed goal = IsTrueFormula (put 2 empty_string goal)
 
 abbrev pub IsProved : Condition → Type 0
 IsProved c = IsClosed c.hyps c.goal ⊎ IsComputed c.goal
@@ -133,4 +137,4 @@ ensures_of f = equal output (claim f.claimed)
 
 -- Main allows an output, from the input and its rest at the end.
 abbrev pub Allows : Form → List ℤ → List ℤ → List ℤ → Type 0
-Allows f input rest written = IsTrue (truth (value_where nothing (main_values input rest written) (ensures_of f)))
+Allows f input rest written = (I : Interpretation) → IsTrue (holds I (main_values input rest written) (ensures_of f))

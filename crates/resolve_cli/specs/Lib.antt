@@ -5,3 +5,4 @@ pub mod Reading
 pub mod Condition
 pub mod Texts
 pub mod Answer
+pub mod Resolves

@@ -31,10 +31,12 @@ lex_line file e = refused_line file (lex_kind e) (lex_place e)
 abbrev pub not_yet_line : List ℕ → ℕ → List ℕ
 not_yet_line file at = refused_line file (codes "NotYet") at
 
--- an unproved condition of Main, under the name of the module: `Unproved NAME.Main.1 ensures at N`
+-- an unproved condition of Main, under the name of the module: `refused NAME: Unproved NAME.Main.1 ensures at N`
+abbrev pub unproved_kind : List ℕ → List ℕ
+unproved_kind name = codes "Unproved " ++ (name ++ codes ".Main.1 ensures")
+
 abbrev pub unproved_line : List ℕ → ℕ → List ℕ
-unproved_line name at =
-    refused_line name (codes "Unproved " ++ (name ++ codes ".Main.1 ensures")) at
+unproved_line name at = refused_line name (unproved_kind name) at
 
 -- the line of a status, and nothing where the command was carried out
 abbrev pub note_line : Status → List ℕ

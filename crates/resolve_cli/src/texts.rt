@@ -1,0 +1,97 @@
+//! The lines of reports and of notes.
+
+ghost use Rattle.std.specs.Prelude.{◌≡◌, ◌++◌, IfOk, OnOk, codes, decimal};
+ghost use Rattle.resolve_cli.specs.Texts as spec;
+
+use itoa::Buffer;
+use math_terms::{Name, NoMemory};
+use res_lexer::LexError;
+use std::alloc::Global;
+
+fn put(line: &mut Vec<u8>, text: &[u8]) -> Result<(), NoMemory>
+    ensures { OnOk result (line.new.items ≡ line.old.items ++ text.now) }
+{
+    match line.extend_from_slice(text) {
+        Ok(()) => Ok(()),
+        Err(_) => Err(NoMemory),
+    }
+}
+
+// ` at N`, at the end of a line.
+fn put_place(line: &mut Vec<u8>, at: u32) -> Result<(), NoMemory>
+    ensures { OnOk result (line.new.items ≡ line.old.items ++ (codes " at " ++ decimal at)) }
+{
+    put(line, b" at ")?;
+    let mut buffer = Buffer::new();
+    put(line, buffer.format(at).as_bytes())
+}
+
+// `refused NAME: KIND at N`
+fn refused_line(alloc: Global, name: &[u8], kind: &[u8], at: u32) -> Result<Name, NoMemory>
+    ensures { IfOk result (λ line. line ≡ spec.refused_line name.now kind.now at) }
+{
+    let mut line = Vec::new(alloc);
+    put(&mut line, b"refused ")?;
+    put(&mut line, name)?;
+    put(&mut line, b": ")?;
+    put(&mut line, kind)?;
+    put_place(&mut line, at)?;
+    Name::new(alloc, line.as_slice())
+}
+
+fn lex_kind(e: &LexError) -> &'static [u8]
+    ensures { result.now ≡ spec.lex_kind e.now }
+{
+    match e {
+        LexError::BadByte { .. } => b"BadByte",
+        LexError::OpenComment { .. } => b"OpenComment",
+        LexError::LongName { .. } => b"LongName",
+        LexError::BigLiteral { .. } => b"BigLiteral",
+        LexError::NoMemory => b"NoMemory",
+    }
+}
+
+fn lex_place(e: &LexError) -> u32
+    ensures { result ≡ spec.lex_place e.now }
+{
+    match e {
+        LexError::BadByte { at } => *at,
+        LexError::OpenComment { at } => *at,
+        LexError::LongName { at } => *at,
+        LexError::BigLiteral { at } => *at,
+        LexError::NoMemory => 0,
+    }
+}
+
+/// The line of a file without tokens.
+pub fn lex_line(alloc: Global, file: &[u8], e: &LexError) -> Result<Name, NoMemory>
+    ensures { IfOk result (λ line. line ≡ spec.lex_line file.now e.now) }
+{
+    refused_line(alloc, file, lex_kind(e), lex_place(e))
+}
+
+/// The line of a file whose form is not built.
+pub fn not_yet_line(alloc: Global, file: &[u8], at: u32) -> Result<Name, NoMemory>
+    ensures { IfOk result (λ line. line ≡ spec.not_yet_line file.now at) }
+{
+    refused_line(alloc, file, b"NotYet", at)
+}
+
+// `Unproved NAME.Main.1 ensures`
+fn unproved_kind(alloc: Global, name: &[u8]) -> Result<Vec<u8>, NoMemory>
+    ensures { IfOk result (λ kind. kind.items ≡ spec.unproved_kind name.now) }
+{
+    let mut kind = Vec::new(alloc);
+    put(&mut kind, b"Unproved ")?;
+    put(&mut kind, name)?;
+    put(&mut kind, b".Main.1 ensures")?;
+    Ok(kind)
+}
+
+/// The line of a module whose condition is not proved.
+pub fn unproved_line(alloc: Global, name: &[u8], at: u32) -> Result<Name, NoMemory>
+    ensures { IfOk result (λ line. line ≡ spec.unproved_line name.now at) }
+{
+    let kind = unproved_kind(alloc, name)?;
+    refused_line(alloc, name, kind.as_slice(), at)
+}
