@@ -6,8 +6,8 @@ use Rattle.edge_io.specs.Held.{Grew, GrewByPrefix}
 use Rattle.stack_machine.specs.Lines.{lines}
 use Rattle.resolve_cli.specs.declared.status.Status.{Status}
 use Rattle.resolve_cli.specs.declared.status.Status.TheVariants as status
-use Rattle.resolve_cli.specs.Words.{Word, Run}
-use Rattle.resolve_cli.specs.Answer.{Answers, command, IsRight}
+use Rattle.resolve_cli.specs.Words.{Word, Run, command}
+use Rattle.resolve_cli.specs.Answer.{Answers, IsRight}
 
 -- Notes got a text; where their own count of faults rose, some first bytes of it.
 abbrev pub Noted : Option (List ℕ) → Option (List ℕ) → ℕ → ℕ → List ℕ → Type 0
