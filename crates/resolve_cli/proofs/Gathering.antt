@@ -1,11 +1,11 @@
 -- Options and further words, one after the other.
-use Rattle.std.proofs.Common.{◌≡◌, ℕ, ◌+◌, Bool, true, false, eqb, List, [], ◌∷◌, ◌++◌, length, Option, Some, None, refl, sym, ap, subst, ◌∙◌, append_assoc, ◌⊎◌, ⊎_elim, ◌<◌, cond, arith, drop, drop-cons, get_or, map, add-one}
+use Rattle.std.proofs.Common.{◌≡◌, ℕ, ◌+◌, Bool, true, false, eqb, List, [], ◌∷◌, ◌++◌, length, Option, Some, None, refl, sym, ap, subst, ◌∙◌, append_assoc, ⊎_elim, ◌<◌, cond, arith, drop, drop-cons, get_or, map, add-one}
 use Rattle.std.proofs.lemmas.List.Folds.{list_any-append}
 use Rattle.std.proofs.lemmas.List.{get_or-map, length-map}
 use Rattle.std.proofs.lemmas.Bool.{cases_Bool, eqb-true, eqb-false, eq-eqb, true≢false}
 use Rattle.std.specs.List.{list_any, position_or_len}
 use Rattle.std.specs.Borrow.{Bor}
-use Rattle.std.specs.Prelude.{codes, if◌then◌else◌, ◌&&◌, ◌||◌, not, ◌==◌}
+use Rattle.std.specs.Prelude.{codes, if◌then◌else◌, ◌&&◌, ◌||◌, not}
 use Rattle.res_lexer.specs.Tokens.{same_bytes}
 use Rattle.resolve_cli.specs.Words.{Word, is_among, all_differ, names_of, good_values, is_good_value, with_option, with_further, is_value, gathered, Piece, piece_of, with_piece}
 use Rattle.resolve_cli.specs.Reading.{option_word, has_option, AreOptions, AddsOption, IsFirst, IsSummary, is_empty, prepended, waiting_word, IsState}

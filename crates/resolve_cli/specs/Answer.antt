@@ -45,7 +45,7 @@ image_of f = record {
 }
 
 -- how many instructions a run may take
-abbrev pub most_steps : ℕ
+unfoldable pub most_steps : ℕ
 most_steps = 100000000
 
 abbrev pub most_component_bytes : ℕ

@@ -1,5 +1,5 @@
 -- What the reader of the words keeps, and what it answers.
-use Rattle.std.specs.Prelude.{◌≡◌, ℕ, ◌<◌, Bool, true, false, List, [], ◌∷◌, length, Option, Some, None, codes, ◌||◌, ◌++◌}
+use Rattle.std.specs.Prelude.{◌≡◌, ℕ, Bool, true, false, List, [], ◌∷◌, length, Option, Some, None, codes, ◌||◌, ◌++◌}
 use Rattle.resolve_cli.specs.declared.words.Command.{Command}
 use Rattle.resolve_cli.specs.declared.words.Command.TheVariants as command
 use Rattle.resolve_cli.specs.declared.words.Verb.{Verb}

@@ -35,8 +35,9 @@ pub fn is_proved(alloc: Global, form: &Form) -> Result<bool, NoMemory>
     is_computed(alloc, &goal)
 }
 
-/// Runs the image of a module on the empty input.
-pub fn run_module<K: Sink>(alloc: Global, form: &Form, out: &mut K) -> Status
+/// Runs the image of a module on the empty input, for so many steps at most.
+pub fn run_module<K: Sink>(alloc: Global, form: &Form, steps: u64, out: &mut K) -> Status
+    requires enough { 129 ≤ steps }
     requires small { IsSmall form.now }
     requires written { All IsSmallLiteral form.now.written }
     ensures ran { ModuleRan form.now result (K.held out.old) (K.held out.new) }
@@ -49,7 +50,7 @@ pub fn run_module<K: Sink>(alloc: Global, form: &Form, out: &mut K) -> Status
         Ok(image) => image,
         Err(_) => return Status::NoMemory,
     };
-    match run(alloc, &image, &[], MOST_STEPS, out) {
+    match run(alloc, &image, &[], steps, out) {
         Stop::Halted => Status::Done,
         Stop::SinkFault => Status::SinkFault,
         Stop::NoMemory => Status::NoMemory,

@@ -1,11 +1,13 @@
 //! The command line's words, and the command that they say.
 
-ghost use Rattle.std.specs.Prelude.{◌≡◌, ◌+◌, ◌^◌, ◌<◌, ◌≤◌, ◌↔◌, ◌&&◌, Bool, true, false, List, [], ◌∷◌, ◌++◌, map, length, Some, None, IsTrue, IfSome, MatchOption, string_bytes, slice_get, nat_le, codes, not, ◌==◌, if◌then◌else◌};
+ghost use Rattle.std.specs.Prelude.{◌≡◌, ◌+◌, ◌^◌, ◌<◌, ◌≤◌, ◌↔◌, ◌&&◌, true, false, List, [], ◌∷◌, ◌++◌, map, Some, None, IsTrue, IfSome, MatchOption, string_bytes, codes, not, ◌==◌, if◌then◌else◌};
 ghost use Rattle.std.specs.List.{list_all, position_or_len};
 ghost use Rattle.res_lexer.specs.Tokens.{is_digit, same_bytes};
 ghost use Rattle.resolve_cli.specs.Words as spec;
 ghost use Rattle.resolve_cli.specs.Words.{Word};
 ghost use Rattle.resolve_cli.specs.Reading.{verb_word, option_word, options_for, has_option, AddsOption, IsPiece, IsSummary, IsState, StepsTo, Gathers, Says, IsCommand};
+
+const MOST_FILES: usize = 256;
 
 /// What the words say: to run one file, or something that has a written reading and is not built.
 #[derive(Clone, Copy, Debug)]
@@ -339,10 +341,7 @@ impl<'a> Summary<'a> {
     {
         Summary {
             further: self.further + 1,
-            first: match self.first {
-                Some(first) => Some(first),
-                None => Some(word),
-            },
+            first: self.first.or(Some(word)),
             ..self
         }
     }
@@ -431,8 +430,7 @@ fn has_good_further(verb: Verb, summary: Summary<'_>) -> bool
         None => false,
         Some(first) => match verb {
             Verb::Gen => summary.further == 1 && is_gen_number(first.as_bytes()),
-            Verb::Verify | Verb::Prove | Verb::Vcs | Verb::Code | Verb::Run => summary.further
-                <= 256,
+            _ => summary.further <= MOST_FILES,
         },
     }
 }

@@ -1,4 +1,4 @@
-use Rattle.std.proofs.Common.{◌≡◌, ◌+◌, ◌<◌, ◌∷◌, List, length, map, drop, string_bytes, sym, subst, arith}
+use Rattle.std.proofs.Common.{◌+◌, ◌<◌, List, length, map, drop, string_bytes, subst, arith}
 use Rattle.resolve_cli.specs.Words.{Word}
 use Rattle.resolve_cli.specs.Reading.{options_for, IsState}
 use Rattle.resolve_cli.proofs.Gathering.{rest-step}

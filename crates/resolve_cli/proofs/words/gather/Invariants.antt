@@ -1,4 +1,4 @@
-use Rattle.std.proofs.Common.{◌≡◌, ◌≤◌, map, drop, string_bytes}
+use Rattle.std.proofs.Common.{◌≤◌, map, drop, string_bytes}
 use Rattle.resolve_cli.specs.Reading.{options_for, IsState}
 use Rattle.resolve_cli.proofs.words.gather.Given as goal
 

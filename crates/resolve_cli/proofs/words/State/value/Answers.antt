@@ -1,4 +1,4 @@
-use Rattle.std.proofs.Common.{◌≡◌, ◌∷◌, [], ◌++◌, List, ℕ, Bool, false, true, sym, ap, ◌∙◌, subst}
+use Rattle.std.proofs.Common.{◌≡◌, ◌∷◌, [], ◌++◌, true, sym, ap, ◌∙◌, subst}
 use Rattle.resolve_cli.specs.Words as spec
 use Rattle.resolve_cli.specs.Words.{Word}
 use Rattle.resolve_cli.specs.Reading.{option_word, options_for, IsSummary}
