@@ -1,6 +1,9 @@
 -- A prefix of a piece is a prefix of a longer one.
 use Rattle.std.proofs.Common.{◌≡◌, ◌∙◌, sym, ℕ, ◌<◌, ◌≤◌, List, ◌++◌, length, take, Option, Result, Ok, Err, ⊎_elim, subst, arith}
-use Rattle.std.specs.Prelude.{OnErr}
+use Rattle.std.specs.Prelude.{OnErr, OnOk}
+use Rattle.std.proofs.Common.{inl, inr}
+use Rattle.edge_io.specs.Faults.{Rose}
+use Rattle.resolve_cli.specs.Resolves.{Noted}
 use Rattle.std.proofs.lemmas.Bool.{cases_lt}
 use Rattle.std.proofs.lemmas.List.{take-append-le, take_all}
 use Rattle.edge_io.specs.Held.{Grew, GrewByPrefix}
@@ -19,3 +22,8 @@ on_err (Err e) P p = p
 pub map_err : {A E : Type 0} (r : Result A E) (P Q : Type 0) → (P → Q) → OnErr r P → OnErr r Q
 map_err (Ok x) P Q f p = tt
 map_err (Err e) P Q f p = f p
+
+-- what a write of a line leaves
+pub noted : {A E : Type 0} (r : Result A E) (old new : Option (List ℕ)) (before now : ℕ) (text : List ℕ) → OnOk r (Grew old new text) → OnErr r (GrewByPrefix old new text) → OnErr r (Rose before now) → Noted old new before now text
+noted (Ok x) old new before now text grew front rose = inl grew
+noted (Err e) old new before now text grew front rose = inr (rose, front)

@@ -10,6 +10,7 @@ use crate::status::Status;
 use edge_io::laws::{growth_composes, growth_is_prefix, growth_then_prefix, rise_lasts, unchanged};
 use edge_io::sink::{Sink, write_all};
 use edge_io::source::Failed;
+use math_terms::Name;
 
 // A front, a name and LF.
 fn write_line<N: Sink>(notes: &mut N, front: &[u8], name: &[u8]) -> Result<(), Failed>
@@ -41,21 +42,41 @@ fn write_rest<N: Sink>(notes: &mut N, name: &[u8]) -> Result<(), Failed>
     write_all(notes, b"\n")
 }
 
+// A text and LF.
+fn note<N: Sink>(notes: &mut N, text: &[u8])
+    ensures { Noted (N.held notes.old) (N.held notes.new) (N.faults notes.old) (N.faults notes.new) (text.now ++ 10 ∷ []) }
+{
+    let _ = write_rest(notes, text);
+}
+
+// A front, a name and LF.
+fn note_name<N: Sink>(notes: &mut N, front: &[u8], name: &Name)
+    ensures { Noted (N.held notes.old) (N.held notes.new) (N.faults notes.old) (N.faults notes.new) (front.now ++ (name.now ++ 10 ∷ [])) }
+{
+    let _ = write_line(notes, front, name.bytes());
+}
+
+// Nothing.
+fn note_nothing<N: Sink>(notes: &mut N)
+    ensures { Noted (N.held notes.old) (N.held notes.new) (N.faults notes.old) (N.faults notes.new) [] }
+{
+    unchanged();
+    let _ = notes;
+}
+
 /// Writes the line of a status, and nothing where the command was carried out. This takes no memory.
 pub fn write_note<N: Sink>(notes: &mut N, status: &Status)
     ensures { Noted (N.held notes.old) (N.held notes.new) (N.faults notes.old) (N.faults notes.new) (note_of status.now) }
 {
-    unchanged();
-    let written = match status {
-        Status::Done => Ok(()),
-        Status::Refused { line } => write_rest(notes, line.bytes()),
-        Status::BadWords => write_rest(notes, b"bad words"),
-        Status::NotFound { name } => write_line(notes, b"not found: ", name.bytes()),
-        Status::ShelfFault => write_rest(notes, b"shelf fault"),
-        Status::SinkFault => write_rest(notes, b"sink fault"),
-        Status::NoMemory => write_rest(notes, b"no memory"),
-        Status::FileTooLong { name } => write_line(notes, b"file too long: ", name.bytes()),
-        Status::NotBuilt => write_rest(notes, b"not built"),
-    };
-    let _ = written;
+    match status {
+        Status::Done => note_nothing(notes),
+        Status::Refused { line } => note(notes, line.bytes()),
+        Status::BadWords => note(notes, b"bad words"),
+        Status::NotFound { name } => note_name(notes, b"not found: ", name),
+        Status::ShelfFault => note(notes, b"shelf fault"),
+        Status::SinkFault => note(notes, b"sink fault"),
+        Status::NoMemory => note(notes, b"no memory"),
+        Status::FileTooLong { name } => note_name(notes, b"file too long: ", name),
+        Status::NotBuilt => note(notes, b"not built"),
+    }
 }

@@ -1,8 +1,9 @@
 //! Running a module: its condition decided, its image run.
 
-ghost use Rattle.std.specs.Prelude.{◌≡◌, ◌↔◌, ◌≤◌, All, IfOk, IsTrue};
+ghost use Rattle.std.specs.Prelude.{◌≡◌, ◌↔◌, ◌≤◌, ◌⊎◌, All, IfOk, IsTrue};
 ghost use Rattle.edge_io.specs.Faults.{Rose};
-ghost use Rattle.resolve_cli.specs.Condition.{IsProvedForm};
+ghost use Rattle.math_terms.specs.Terms.{nodes, put};
+ghost use Rattle.resolve_cli.specs.Condition.{IsClosed, IsComputed, IsProvedForm, empty_string};
 ghost use Rattle.resolve_cli.specs.Form.{IsSmall, IsSmallLiteral};
 ghost use Rattle.resolve_cli.specs.Resolves.{ModuleRan};
 
@@ -12,13 +13,21 @@ use crate::module::Form;
 use crate::proving::{is_closed, is_computed};
 use crate::status::Status;
 use edge_io::sink::Sink;
-use math_terms::NoMemory;
+use math_terms::{NoMemory, Term};
 use stack_machine::laws::{halted_stays, output_grows};
 use stack_machine::{Stop, run};
 use std::alloc::Global;
 
-/// The most instructions of a run.
-pub const MOST_STEPS: u64 = 100000000;
+// Whether the search closes a goal at once, or it can be computed and is true.
+fn decide(alloc: Global, hyps: &[Term], goal: &Term) -> Result<bool, NoMemory>
+    requires { nodes (put 2 empty_string goal.now) ≤ 10000 }
+    ensures { IfOk result (λ b. IsTrue b ↔ (IsClosed hyps.now goal.now ⊎ IsComputed goal.now)) }
+{
+    if is_closed(hyps, goal) {
+        return Ok(true);
+    }
+    is_computed(alloc, goal)
+}
 
 /// Whether the condition of a module is proved.
 pub fn is_proved(alloc: Global, form: &Form) -> Result<bool, NoMemory>
@@ -29,10 +38,7 @@ pub fn is_proved(alloc: Global, form: &Form) -> Result<bool, NoMemory>
 {
     let goal = goal(alloc, form)?;
     let hyps = hypotheses(alloc)?;
-    if is_closed(hyps.as_slice(), &goal) {
-        return Ok(true);
-    }
-    is_computed(alloc, &goal)
+    decide(alloc, hyps.as_slice(), &goal)
 }
 
 /// Runs the image of a module on the empty input, for so many steps at most.
