@@ -4,3 +4,4 @@ pub mod Words
 pub mod Condition
 pub mod Texts
 pub mod Answer
+pub mod Scan
