@@ -1,7 +1,7 @@
 -- What the automaton does with the tokens of a module: it takes them all.
 use Rattle.std.proofs.Common.{◌≡◌, ◌≢◌, ℕ, suc, ℤ, ◌+◌, ◌<◌, ◌≤◌, ◌⊎◌, Bool, true, false, cond, eqb, List, [], ◌∷◌, ◌++◌, length, Option, Some, None, codes, refl, sym, ap, ◌∙◌, subst, inl, inr, ⊎_elim, append_assoc, append-nil, length-append, arith}
 use Rattle.std.proofs.lemmas.Bool.{cases_Bool, and_parts, and_from, eqb-true, eq-eqb, true≢false, false_from_ne_true}
-use Rattle.std.proofs.lemmas.Bool.Decides.{nat_tests}
+use Rattle.std.proofs.lemmas.Bool.Decides.{nat_tests, Decides-int_eq}
 use Rattle.std.specs.Prelude.{nat_lt, nat_eq, IsTrue}
 use Rattle.std.specs.Ordering.{int_eq}
 use Rattle.res_lexer.specs.declared.token.TokenKind.{TokenKind}
@@ -28,10 +28,10 @@ same_as_itself [] = refl
 same_as_itself (x ∷ xs) = and_from (eqb x x) (same_bytes xs xs) (eq-eqb x x refl) (same_as_itself xs)
 
 pub same_int : (m : ℤ) → int_eq m m ≡ true
-same_int m = ?
+same_int m = (Decides-int_eq m m).1 refl
 
 pub int_from_test : (m n : ℤ) → int_eq m n ≡ true → m ≡ n
-int_from_test m n h = ?
+int_from_test m n h = (Decides-int_eq m n).0 h
 
 pub kind_itself : (k : TokenKind) → same_kind k k ≡ true
 kind_itself (kind.Word a) = same_as_itself a
