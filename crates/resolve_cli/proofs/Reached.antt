@@ -283,8 +283,8 @@ reached done ws g [] s r e = subst (λ x. To x s) (sym (append-nil done)) (arriv
 reached done ws g (k ∷ ks) s r e =
     let P : Option State → Type 0 = λ o. next ws g k ≡ o → (elim o as (λ _. Option State) [ None ↦ None | Some t ↦ run t.wanted t.goal ks ]) ≡ Some s → To (done ++ k ∷ ks) s in
     (elim (next ws g k) as P [
-      None ↦ λ is h. none_is s _ h
-    | Some t ↦ λ is h. subst (λ x. To x s) (append_assoc done (k ∷ []) ks) (reached (done ++ k ∷ []) t.wanted t.goal ks s (step done ws g k t r is) h)
+      | None ↦ λ is h. none_is s _ h
+      | Some t ↦ λ is h. subst (λ x. To x s) (append_assoc done (k ∷ []) ks) (reached (done ++ k ∷ []) t.wanted t.goal ks s (step done ws g k t r is) h)
     ]) refl e
 
 pub begins : Reached [] start to_name

@@ -5,3 +5,4 @@ pub mod Condition
 pub mod Texts
 pub mod Answer
 pub mod Scan
+pub mod Reader

@@ -3,6 +3,7 @@
 
 mod condition;
 pub mod module;
+pub mod reader;
 mod status;
 
 pub use status::Status;

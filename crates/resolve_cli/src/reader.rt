@@ -1,0 +1,189 @@
+//! The reader of a module from its tokens.
+
+ghost use Rattle.std.specs.Prelude.{◌≡◌, ℕ, ◌+◌, ◌-◌, ◌<◌, ◌≤◌, ◌↔◌, false, true, List, [], ◌∷◌, ◌++◌, length, map, drop, All, Some, IsTrue, IfOk, IfErr, MatchOption, slice_get};
+ghost use Rattle.res_lexer.specs.declared.token.TokenKind.{TokenKind};
+ghost use Rattle.resolve_cli.specs.declared.module.Literal.{Literal};
+ghost use Rattle.resolve_cli.specs.Reserved.{is_reserved};
+ghost use Rattle.resolve_cli.specs.Form.{IsModule, IsSmallLiteral, IsSmallToken, kinds, at_of, literal_kinds, word, most, less};
+ghost use Rattle.resolve_cli.specs.Scan.{Names, Goal, to_name, to_input, to_output, to_claim, to_operand, to_more, to_again, to_body, to_number, to_end, accepted, form_of, literal, same_kind, start, scan, scan_from, to_close, to_last};
+ghost use Rattle.resolve_cli.specs.Reader.{IsReadRefusal, IsStop, IsLacking, LacksLiteral, begins_with, fixed_kind, first_name, first_digits};
+
+use crate::module::{Form, Literal, Module};
+use math_terms::{Items, Name};
+use res_lexer::{Token, TokenKind};
+use std::alloc::Global;
+
+/// Why tokens are no module of the form: the number of the token, from 0, or the number of tokens where they end
+/// too early; or want of memory.
+#[derive(Clone, Copy, Debug, PartialEq, Eq)]
+pub enum ReadError {
+    NotYet { token: usize },
+    NoMemory,
+}
+
+// The most operands of a claim, and the most statements.
+const MOST: usize = 64;
+
+// The words and symbols that every module has. `Join` is the `o` between operands.
+#[derive(Clone, Copy)]
+enum Fixed {
+    Facility,
+    Operation,
+    Main,
+    Updates,
+    InStream,
+    OutStream,
+    Ensures,
+    EmptyString,
+    Join,
+    Procedure,
+    Write,
+    End,
+    Semicolon,
+    Comma,
+    Opening,
+    Closing,
+    Colon,
+    Equals,
+    Dash,
+    Less,
+    Greater,
+}
+
+impl Fixed {
+    fn is(self, kind: &TokenKind) -> bool
+        ensures { IsTrue result ↔ (kind.now ≡ fixed_kind self) }
+    {
+        match self {
+            Fixed::Facility => kind.is_word(b"Facility"),
+            Fixed::Operation => kind.is_word(b"Operation"),
+            Fixed::Main => kind.is_word(b"Main"),
+            Fixed::Updates => kind.is_word(b"updates"),
+            Fixed::InStream => kind.is_word(b"In_Stream"),
+            Fixed::OutStream => kind.is_word(b"Out_Stream"),
+            Fixed::Ensures => kind.is_word(b"ensures"),
+            Fixed::EmptyString => kind.is_word(b"Empty_String"),
+            Fixed::Join => kind.is_word(b"o"),
+            Fixed::Procedure => kind.is_word(b"Procedure"),
+            Fixed::Write => kind.is_word(b"Write"),
+            Fixed::End => kind.is_word(b"end"),
+            Fixed::Semicolon => kind.is_symbol(15),
+            Fixed::Comma => kind.is_symbol(14),
+            Fixed::Opening => kind.is_symbol(12),
+            Fixed::Closing => kind.is_symbol(13),
+            Fixed::Colon => kind.is_symbol(16),
+            Fixed::Equals => kind.is_symbol(8),
+            Fixed::Dash => kind.is_symbol(10),
+            Fixed::Less => kind.is_symbol(6),
+            Fixed::Greater => kind.is_symbol(7),
+        }
+    }
+}
+
+static RESERVED: [&[u8]; 74] = [
+    b"Concept",
+    b"type",
+    b"evaluates",
+    b"Integer",
+    b"uses",
+    b"requires",
+    b"end",
+    b"Type",
+    b"Family",
+    b"is",
+    b"modeled",
+    b"by",
+    b"exemplar",
+    b"constraint",
+    b"initialization",
+    b"ensures",
+    b"Z",
+    b"B",
+    b"Str",
+    b"Cart_Prod",
+    b"Operation",
+    b"Boolean",
+    b"In_Stream",
+    b"Out_Stream",
+    b"alters",
+    b"clears",
+    b"preserves",
+    b"replaces",
+    b"restores",
+    b"updates",
+    b"Enhancement",
+    b"for",
+    b"Realization",
+    b"of",
+    b"Procedure",
+    b"Facility",
+    b"Static_Array_Template",
+    b"realized",
+    b"enhanced",
+    b"represented",
+    b"Record",
+    b"convention",
+    b"correspondence",
+    b"Conc",
+    b"decreasing",
+    b"Var",
+    b"If",
+    b"then",
+    b"else",
+    b"While",
+    b"changing",
+    b"maintaining",
+    b"do",
+    b"implies",
+    b"or",
+    b"and",
+    b"not",
+    b"o",
+    b"div",
+    b"mod",
+    b"true",
+    b"false",
+    b"min_int",
+    b"max_int",
+    b"Empty_String",
+    b"Reverse",
+    b"Prt_Btwn",
+    b"Is_Initial",
+    b"Read",
+    b"Write",
+    b"At_End",
+    b"Remaining",
+    b"Swap_Entry",
+    b"Static_Array",
+];
+
+fn is_reserved(name: &[u8]) -> bool
+    ensures { result ≡ is_reserved name.now }
+{
+    for word in RESERVED.iter() {
+        if name == *word {
+            return true;
+        }
+    }
+    false
+}
+
+// The kind of the token of this number, or `None` after the last one.
+fn kind_at(tokens: &[Token], at: usize) -> Option<&TokenKind>
+    ensures { MatchOption result (drop at (kinds tokens.now) ≡ []) (λ k. (drop at (kinds tokens.now) ≡ k.now ∷ drop (at + 1) (kinds tokens.now)) × (at < length tokens.now)) }
+{
+    match tokens.get(at) {
+        Some(token) => Some(&token.kind),
+        None => None,
+    }
+}
+
+fn stands(tokens: &[Token], at: usize, wanted: Fixed) -> bool
+    ensures is { result ≡ begins_with (fixed_kind wanted) (drop at (kinds tokens.now)) }
+    ensures within { IsTrue result → at < length tokens.now }
+{
+    match kind_at(tokens, at) {
+        Some(kind) => wanted.is(kind),
+        None => false,
+    }
+}
