@@ -1,3 +1,4 @@
 pub mod Run
 pub mod Reached
 pub mod Refusals
+pub mod Reading

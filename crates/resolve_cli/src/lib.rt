@@ -2,6 +2,7 @@
 #![tactic(auto)]
 
 mod condition;
+pub mod form_laws;
 pub mod module;
 pub mod reader;
 mod status;

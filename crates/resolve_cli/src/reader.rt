@@ -1,6 +1,6 @@
 //! The reader of a module from its tokens.
 
-ghost use Rattle.std.specs.Prelude.{◌≡◌, ℕ, ◌+◌, ◌-◌, ◌<◌, ◌≤◌, ◌↔◌, false, true, List, [], ◌∷◌, ◌++◌, length, map, drop, All, Some, IsTrue, IfOk, IfErr, MatchOption, slice_get};
+ghost use Rattle.std.specs.Prelude.{◌≡◌, ℕ, ◌+◌, ◌-◌, ◌<◌, ◌≤◌, ◌↔◌, false, true, List, [], ◌∷◌, ◌++◌, length, map, drop, All, Some, IsTrue, IfOk, IfErr, OnOk, MatchOption, MatchResult, slice_get};
 ghost use Rattle.res_lexer.specs.declared.token.TokenKind.{TokenKind};
 ghost use Rattle.resolve_cli.specs.declared.module.Literal.{Literal};
 ghost use Rattle.resolve_cli.specs.Reserved.{is_reserved};
@@ -170,7 +170,8 @@ fn is_reserved(name: &[u8]) -> bool
 
 // The kind of the token of this number, or `None` after the last one.
 fn kind_at(tokens: &[Token], at: usize) -> Option<&TokenKind>
-    ensures { MatchOption result (drop at (kinds tokens.now) ≡ []) (λ k. (drop at (kinds tokens.now) ≡ k.now ∷ drop (at + 1) (kinds tokens.now)) × (at < length tokens.now)) }
+    ensures is { MatchOption result (drop at (kinds tokens.now) ≡ []) (λ k. (drop at (kinds tokens.now) ≡ k.now ∷ drop (at + 1) (kinds tokens.now)) × (at < length tokens.now)) }
+    ensures small { All (λ t. IsSmallToken t.kind) tokens.now → MatchOption result (Unit {0}) (λ k. IsSmallToken k.now) }
 {
     match tokens.get(at) {
         Some(token) => Some(&token.kind),
@@ -185,5 +186,97 @@ fn stands(tokens: &[Token], at: usize, wanted: Fixed) -> bool
     match kind_at(tokens, at) {
         Some(kind) => wanted.is(kind),
         None => false,
+    }
+}
+
+fn stands_word(tokens: &[Token], at: usize, name: &[u8]) -> bool
+    ensures is { result ≡ begins_with (word name.now) (drop at (kinds tokens.now)) }
+    ensures within { IsTrue result → at < length tokens.now }
+{
+    match kind_at(tokens, at) {
+        Some(kind) => kind.is_word(name),
+        None => false,
+    }
+}
+
+// The next number, where one of the words and symbols stands.
+fn expect_one(tokens: &[Token], at: usize, wanted: Fixed) -> Result<usize, ReadError>
+    ensures next { IfOk result (λ to. (to ≡ at + 1) × (to ≤ length tokens.now)) }
+    ensures found { IfOk result (λ to. (rest : List TokenKind) (goal : Goal) → scan_from (fixed_kind wanted ∷ rest) goal (kinds tokens.now) at ≡ scan_from rest goal (kinds tokens.now) to) }
+    ensures refused { IfErr result (λ e. (rest : List TokenKind) (goal : Goal) → IsStop (scan_from (fixed_kind wanted ∷ rest) goal (kinds tokens.now) at) e) }
+{
+    if stands(tokens, at, wanted) {
+        Ok(at + 1)
+    } else {
+        Err(ReadError::NotYet { token: at })
+    }
+}
+
+// The number after these words and symbols.
+fn expect(tokens: &[Token], at: usize, wanted: &[Fixed]) -> Result<usize, ReadError>
+    ensures next { IfOk result (λ to. to ≡ at + length wanted.now) }
+    ensures found { IfOk result (λ to. (rest : List TokenKind) (goal : Goal) → scan_from (map fixed_kind wanted.now ++ rest) goal (kinds tokens.now) at ≡ scan_from rest goal (kinds tokens.now) to) }
+    ensures refused { IfErr result (λ e. (rest : List TokenKind) (goal : Goal) → IsStop (scan_from (map fixed_kind wanted.now ++ rest) goal (kinds tokens.now) at) e) }
+{
+    let mut to = at;
+    for fixed in wanted {
+        to = expect_one(tokens, to, *fixed)?;
+    }
+    Ok(to)
+}
+
+// The number after a word.
+fn expect_word(tokens: &[Token], at: usize, name: &[u8]) -> Result<usize, ReadError>
+    ensures next { IfOk result (λ to. (to ≡ at + 1) × (to ≤ length tokens.now)) }
+    ensures found { IfOk result (λ to. (rest : List TokenKind) (goal : Goal) → scan_from (word name.now ∷ rest) goal (kinds tokens.now) at ≡ scan_from rest goal (kinds tokens.now) to) }
+    ensures refused { IfErr result (λ e. (rest : List TokenKind) (goal : Goal) → IsStop (scan_from (word name.now ∷ rest) goal (kinds tokens.now) at) e) }
+{
+    if stands_word(tokens, at, name) {
+        Ok(at + 1)
+    } else {
+        Err(ReadError::NotYet { token: at })
+    }
+}
+
+fn copied(alloc: Global, name: &Name) -> Result<Name, ReadError>
+    ensures { MatchResult result (λ n. n ≡ name.now) (λ e. e ≡ ReadError.NoMemory) }
+{
+    match name.copy(alloc) {
+        Ok(copy) => Ok(copy),
+        Err(_) => Err(ReadError::NoMemory),
+    }
+}
+
+// The identifier at this number.
+fn identifier(alloc: Global, tokens: &[Token], at: usize) -> Result<Name, ReadError>
+    ensures within { OnOk result (at < length tokens.now) }
+    ensures found { IfOk result (λ name. first_name (drop at (kinds tokens.now)) ≡ Some name) }
+    ensures refused { IfErr result (λ e. IsLacking (first_name (drop at (kinds tokens.now))) at e) }
+{
+    match kind_at(tokens, at) {
+        Some(TokenKind::Word(name)) => {
+            if is_reserved(name.bytes()) {
+                Err(ReadError::NotYet { token: at })
+            } else {
+                copied(alloc, name)
+            }
+        }
+        Some(_) => Err(ReadError::NotYet { token: at }),
+        None => Err(ReadError::NotYet { token: at }),
+    }
+}
+
+// The digits at this number.
+fn digits(tokens: &[Token], at: usize) -> Result<i64, ReadError>
+    requires { All (λ t. IsSmallToken t.kind) tokens.now }
+    ensures within { OnOk result (at < length tokens.now) }
+    ensures found { IfOk result (λ n. first_digits (drop at (kinds tokens.now)) ≡ Some n) }
+    ensures small { IfOk result (λ n. IsSmallLiteral (literal false n)) }
+    ensures refused { IfErr result (λ e. IsLacking (first_digits (drop at (kinds tokens.now))) at e) }
+{
+    match kind_at(tokens, at) {
+        Some(TokenKind::Literal(value)) => Ok(*value),
+        Some(_) => Err(ReadError::NotYet { token: at }),
+        None => Err(ReadError::NotYet { token: at }),
     }
 }
