@@ -1,6 +1,6 @@
 -- The places of tokens, and what the tests of the reader say of the scan there.
-use Rattle.std.proofs.Common.{◌≡◌, ℕ, zero, suc, ◌+◌, ◌<◌, ◌≤◌, Bool, true, false, cond, ℤ, pos, ◌≤ℤ◌, List, [], ◌∷◌, ◌++◌, length, map, take, drop, get_or, Option, Some, None, refl, sym, ap, ◌∙◌, subst, add-one, arith, drop-drop, drop-cons}
-use Rattle.std.proofs.lemmas.Bool.{true≢false, false_from_ne_true}
+use Rattle.std.proofs.Common.{◌≡◌, ℕ, zero, suc, ◌+◌, ◌<◌, ◌≤◌, ◌↔◌, ◌⊎◌, ⊎_elim, Bool, true, false, cond, ℤ, pos, ◌≤ℤ◌, List, [], ◌∷◌, ◌++◌, length, map, take, drop, get_or, Option, Some, None, refl, sym, ap, ◌∙◌, subst, add-one, arith, drop-drop, drop-cons}
+use Rattle.std.proofs.lemmas.Bool.{cases_Bool, true≢false, false_from_ne_true}
 use Rattle.std.proofs.lemmas.Bool.Decides.{nat_tests}
 use Rattle.std.proofs.lemmas.List.Elements.{All-cons, All-nil}
 use Rattle.std.specs.List.{list_any, All}
@@ -46,29 +46,44 @@ uncons ks n k tail e =
     e ∙ ap (λ l. k ∷ l) (sym (ap (λ l. drop 1 l) e) ∙ rest)
 
 pub goes_on : (w : TokenKind) (rest : List TokenKind) (goal : Goal) (ks : List TokenKind) (n : ℕ) → begins_with w (drop n ks) ≡ true → scan_from (w ∷ rest) goal ks n ≡ scan_from rest goal ks (n + 1)
-goes_on w rest goal ks n yes = by_front (drop n ks) refl
+goes_on w rest goal ks n here = by_front (drop n ks) refl
   where
     by_front : (xs : List TokenKind) → drop n ks ≡ xs → scan_from (w ∷ rest) goal ks n ≡ scan_from rest goal ks (n + 1)
-    by_front [] e = absurd (true≢false (sym yes ∙ ap (begins_with w) e))
-    by_front (k ∷ tail) e = take_kind w k rest goal ks n (uncons ks n k tail e) (sym (ap (begins_with w) e) ∙ yes)
+    by_front [] e = absurd (true≢false (sym here ∙ ap (begins_with w) e))
+    by_front (k ∷ tail) e = take_kind w k rest goal ks n (uncons ks n k tail e) (sym (ap (begins_with w) e) ∙ here)
 
 pub halts : (w : TokenKind) (rest : List TokenKind) (goal : Goal) (xs : List TokenKind) (n : ℕ) → begins_with w xs ≡ false → scan (w ∷ rest) goal n xs ≡ stopped n
-halts w rest goal [] n no = refl
-halts w rest goal (k ∷ tail) n no = halt_kind w k rest goal tail n no
+halts w rest goal [] n other = refl
+halts w rest goal (k ∷ tail) n other = halt_kind w k rest goal tail n other
 
 pub stop_after : (o p : Outcome) (e : ReadError) → o ≡ p → IsStop p e → IsStop o e
 stop_after o p (error.NotYet k) same h = same ∙ h
 stop_after o p error.NoMemory same h = tt
 
 -- one more of the fixed words and symbols
-pub fixed_more : (fs : List Fixed) (i : ℕ) (f : Fixed) (rest : List TokenKind) → i < length fs → f ≡ get_or fs i f → map fixed_kind (drop i fs) ++ rest ≡ fixed_kind f ∷ (map fixed_kind (drop (i + 1) fs) ++ rest)
-fixed_more [] i f rest less e = absurd (omega arith)
-fixed_more (x ∷ fs) zero f rest less e = ap (λ y. fixed_kind y ∷ (map fixed_kind fs ++ rest)) (sym e)
-fixed_more (x ∷ fs) (suc i) f rest less e =
-    fixed_more fs i f rest (omega arith) e ∙ ap (λ j. fixed_kind f ∷ (map fixed_kind (drop j (x ∷ fs)) ++ rest)) (sym (plus_one i))
+pub fixed_more : (fs : List Fixed) (i : ℕ) (d : Fixed) (rest : List TokenKind) → i < length fs → map fixed_kind (drop i fs) ++ rest ≡ fixed_kind (get_or fs i d) ∷ (map fixed_kind (drop (i + 1) fs) ++ rest)
+fixed_more fs i d rest less = next_fixed fs i less ∙ ap (λ j. fixed_kind (get_or fs i d) ∷ (map fixed_kind (drop j fs) ++ rest)) (sym (add-one i))
   where
-    plus_one : (j : ℕ) → suc j + 1 ≡ suc (j + 1)
-    plus_one j = omega arith
+    next_fixed : (gs : List Fixed) (j : ℕ) → j < length gs → map fixed_kind (drop j gs) ++ rest ≡ fixed_kind (get_or gs j d) ∷ (map fixed_kind (drop (suc j) gs) ++ rest)
+    next_fixed [] j few = absurd (omega arith)
+    next_fixed (x ∷ gs) zero few = refl
+    next_fixed (x ∷ gs) (suc j) few = next_fixed gs j (omega arith)
+
+pub test_is : (r : Bool) (w k : TokenKind) (xs tail : List TokenKind) → (r ≡ true) ↔ (k ≡ w) → xs ≡ k ∷ tail → r ≡ begins_with w xs
+test_is r w k xs tail iff e =
+    ⊎_elim
+    (λ t. t ∙ sym (ap (begins_with w) e ∙ ap (same_kind w) (iff.0 t) ∙ kind_itself w))
+    (λ f. f ∙ sym (ap (begins_with w) e ∙ false_from_ne_true (same_kind w k) (λ same. true≢false (sym (iff.1 (sym (kind_from_test w k same))) ∙ f))))
+    (cases_Bool r)
+
+pub front_is : (w : TokenKind) (ks : List TokenKind) (n : ℕ) → begins_with w (drop n ks) ≡ true → drop n ks ≡ w ∷ drop (n + 1) ks
+front_is w ks n here = by_front (drop n ks) refl
+  where
+    by_front : (xs : List TokenKind) → drop n ks ≡ xs → drop n ks ≡ w ∷ drop (n + 1) ks
+    by_front [] e = absurd (true≢false (sym here ∙ ap (begins_with w) e))
+    by_front (k ∷ tail) e =
+        let same : w ≡ k = kind_from_test w k (sym (ap (begins_with w) e) ∙ here) in
+        uncons ks n k tail e ∙ ap (λ x. x ∷ drop (n + 1) ks) (sym same)
 
 -- ---- literals
 
@@ -87,3 +102,82 @@ small_begin place bytes (t ∷ ts) to rest b =
 
 pub small_tokens : (bytes : List ℕ) (ts : List Token) → AreTokens bytes ts → All (λ t. IsSmallToken t.kind) ts
 small_tokens bytes ts b = small_begin 0 bytes ts b.0 [] b.1
+
+none_some : {A : Type 0} (x : A) → None ≡ Some x → ⊥
+none_some x h = cc
+
+pub digits_front : (ks : List TokenKind) (n : ℕ) (value : ℤ) → first_digits (drop n ks) ≡ Some value → drop n ks ≡ kind.Literal value ∷ drop (n + 1) ks
+digits_front ks n value here = by_front (drop n ks) refl
+  where
+    by_front : (xs : List TokenKind) → drop n ks ≡ xs → drop n ks ≡ kind.Literal value ∷ drop (n + 1) ks
+    by_front [] e = absurd (none_some value (sym (ap first_digits e) ∙ here))
+    by_front (kind.Word w ∷ tail) e = absurd (none_some value (sym (ap first_digits e) ∙ here))
+    by_front (kind.Symbol w ∷ tail) e = absurd (none_some value (sym (ap first_digits e) ∙ here))
+    by_front (kind.Literal m ∷ tail) e =
+        let known : Some m ≡ Some value = sym (ap first_digits e) ∙ here in
+        let same : m ≡ value = cc in
+        uncons ks n (kind.Literal m) tail e ∙ ap (λ x. kind.Literal x ∷ drop (n + 1) ks) same
+
+pub minus_found : (ks : List TokenKind) (n : ℕ) (value : ℤ) → begins_with dash (drop n ks) ≡ true → first_digits (drop (n + 1) ks) ≡ Some value → drop n ks ≡ literal_kinds (literal true value) ++ drop (n + 2) ks
+minus_found ks n value minus here =
+    let two : n + 1 + 1 ≡ n + 2 = omega arith in
+    front_is dash ks n minus ∙ ap (λ l. dash ∷ l) (digits_front ks (n + 1) value here ∙ ap (λ j. kind.Literal value ∷ drop j ks) two)
+
+no_operand : (h : Names) (cs : List Literal) (n : ℕ) (xs : List TokenKind) → first_digits xs ≡ None → scan [] (to_operand true h cs) n xs ≡ stopped n
+no_operand h cs n [] none = refl
+no_operand h cs n (kind.Word w ∷ xs) none = refl
+no_operand h cs n (kind.Symbol w ∷ xs) none = refl
+no_operand h cs n (kind.Literal m ∷ xs) none = absurd (none_some m (sym none))
+
+no_number : (h : Names) (cs ds : List Literal) (n : ℕ) (xs : List TokenKind) → first_digits xs ≡ None → scan [] (to_number true h cs ds) n xs ≡ stopped n
+no_number h cs ds n [] none = refl
+no_number h cs ds n (kind.Word w ∷ xs) none = refl
+no_number h cs ds n (kind.Symbol w ∷ xs) none = refl
+no_number h cs ds n (kind.Literal m ∷ xs) none = absurd (none_some m (sym none))
+
+plain_operand : (h : Names) (cs : List Literal) (n : ℕ) (xs : List TokenKind) → begins_with dash xs ≡ false → first_digits xs ≡ None → scan [] (to_operand false h cs) n xs ≡ stopped n
+plain_operand h cs n [] minus none = refl
+plain_operand h cs n (kind.Word w ∷ xs) minus none = refl
+plain_operand h cs n (kind.Literal m ∷ xs) minus none = absurd (none_some m (sym none))
+plain_operand h cs n (kind.Symbol w ∷ xs) minus none =
+    let P : Bool → Type 0 = λ b. (elim (cond b (Some (at [] (to_operand true h cs))) None) as (λ _. Outcome) [ None ↦ stopped n | Some s ↦ scan s.wanted s.goal (n + 1) xs ]) ≡ stopped n in
+    subst P (sym minus) refl
+
+plain_number : (h : Names) (cs ds : List Literal) (n : ℕ) (xs : List TokenKind) → begins_with dash xs ≡ false → first_digits xs ≡ None → scan [] (to_number false h cs ds) n xs ≡ stopped n
+plain_number h cs ds n [] minus none = refl
+plain_number h cs ds n (kind.Word w ∷ xs) minus none = refl
+plain_number h cs ds n (kind.Literal m ∷ xs) minus none = absurd (none_some m (sym none))
+plain_number h cs ds n (kind.Symbol w ∷ xs) minus none =
+    let P : Bool → Type 0 = λ b. (elim (cond b (Some (at [] (to_number true h cs ds))) None) as (λ _. Outcome) [ None ↦ stopped n | Some s ↦ scan s.wanted s.goal (n + 1) xs ]) ≡ stopped n in
+    subst P (sym minus) refl
+
+pub plain_lacks : (ks : List TokenKind) (n : ℕ) (e : ReadError) → begins_with dash (drop n ks) ≡ false → IsLacking (first_digits (drop n ks)) n e → LacksLiteral (drop n ks) n e
+plain_lacks ks n (error.NotYet k) minus lacks =
+    (λ h cs. plain_operand h cs n (drop n ks) minus lacks.1 ∙ ap stopped (sym lacks.0), λ h cs ds. plain_number h cs ds n (drop n ks) minus lacks.1 ∙ ap stopped (sym lacks.0))
+plain_lacks ks n error.NoMemory minus lacks = (λ h cs. tt, λ h cs ds. tt)
+
+pub minus_lacks : (ks : List TokenKind) (n : ℕ) (e : ReadError) → begins_with dash (drop n ks) ≡ true → IsLacking (first_digits (drop (n + 1) ks)) (n + 1) e → LacksLiteral (drop n ks) n e
+minus_lacks ks n (error.NotYet k) minus lacks =
+    let front = front_is dash ks n minus in (
+      λ h cs. ap (scan [] (to_operand false h cs) n) front ∙ no_operand h cs (n + 1) (drop (n + 1) ks) lacks.1 ∙ ap stopped (sym lacks.0),
+      λ h cs ds. ap (scan [] (to_number false h cs ds) n) front ∙ no_number h cs ds (n + 1) (drop (n + 1) ks) lacks.1 ∙ ap stopped (sym lacks.0),
+    )
+minus_lacks ks n error.NoMemory minus lacks = (λ h cs. tt, λ h cs ds. tt)
+
+pub scan_operand : (l : Literal) (h : Names) (cs : List Literal) (n to : ℕ) (xs : List TokenKind) → to ≡ n + length (literal_kinds l) → scan [] (to_operand false h cs) n (literal_kinds l ++ xs) ≡ scan (greater ∷ []) (to_more h (cs ++ l ∷ [])) to xs
+scan_operand l h cs n to xs is = by_sign l.minus l.digits is
+  where
+    by_sign : (m : Bool) (v : ℤ) → to ≡ n + length (literal_kinds (literal m v)) → scan [] (to_operand false h cs) n (literal_kinds (literal m v) ++ xs) ≡ scan (greater ∷ []) (to_more h (cs ++ literal m v ∷ [])) to xs
+    by_sign false v e = ap (λ j. scan (greater ∷ []) (to_more h (cs ++ literal false v ∷ [])) j xs) (sym e)
+    by_sign true v e =
+        let two : n + 1 + 1 ≡ to = omega (arith, e) in
+        ap (λ j. scan (greater ∷ []) (to_more h (cs ++ literal true v ∷ [])) j xs) two
+
+pub scan_number : (l : Literal) (h : Names) (cs ds : List Literal) (n to : ℕ) (xs : List TokenKind) → to ≡ n + length (literal_kinds l) → scan [] (to_number false h cs ds) n (literal_kinds l ++ xs) ≡ scan (to_close h.output) (to_body h cs (ds ++ l ∷ [])) to xs
+scan_number l h cs ds n to xs is = by_sign l.minus l.digits is
+  where
+    by_sign : (m : Bool) (v : ℤ) → to ≡ n + length (literal_kinds (literal m v)) → scan [] (to_number false h cs ds) n (literal_kinds (literal m v) ++ xs) ≡ scan (to_close h.output) (to_body h cs (ds ++ literal m v ∷ [])) to xs
+    by_sign false v e = ap (λ j. scan (to_close h.output) (to_body h cs (ds ++ literal false v ∷ [])) j xs) (sym e)
+    by_sign true v e =
+        let two : n + 1 + 1 ≡ to = omega (arith, e) in
+        ap (λ j. scan (to_close h.output) (to_body h cs (ds ++ literal true v ∷ [])) j xs) two

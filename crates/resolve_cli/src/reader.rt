@@ -4,7 +4,7 @@ ghost use Rattle.std.specs.Prelude.{◌≡◌, ℕ, ◌+◌, ◌-◌, ◌<◌, �
 ghost use Rattle.res_lexer.specs.declared.token.TokenKind.{TokenKind};
 ghost use Rattle.resolve_cli.specs.declared.module.Literal.{Literal};
 ghost use Rattle.resolve_cli.specs.Reserved.{is_reserved};
-ghost use Rattle.resolve_cli.specs.Form.{IsModule, IsSmallLiteral, IsSmallToken, kinds, at_of, literal_kinds, word, most, less};
+ghost use Rattle.resolve_cli.specs.Form.{IsModule, IsSmallLiteral, IsSmallToken, kinds, at_of, literal_kinds, word, most, less, opening};
 ghost use Rattle.resolve_cli.specs.Scan.{Names, Goal, to_name, to_input, to_output, to_claim, to_operand, to_more, to_again, to_body, to_number, to_end, accepted, form_of, literal, same_kind, start, scan, scan_from, to_close, to_last};
 ghost use Rattle.resolve_cli.specs.Reader.{IsReadRefusal, IsStop, IsLacking, LacksLiteral, begins_with, fixed_kind, first_name, first_digits};
 
@@ -279,4 +279,64 @@ fn digits(tokens: &[Token], at: usize) -> Result<i64, ReadError>
         Some(_) => Err(ReadError::NotYet { token: at }),
         None => Err(ReadError::NotYet { token: at }),
     }
+}
+
+// The literal at this number, and the number after it.
+fn literal(tokens: &[Token], at: usize) -> Result<(Literal, usize), ReadError>
+    requires { All (λ t. IsSmallToken t.kind) tokens.now }
+    ensures small { IfOk result (λ r. IsSmallLiteral r.0) }
+    ensures next { IfOk result (λ r. r.1 ≡ at + length (literal_kinds r.0)) }
+    ensures found { IfOk result (λ r. drop at (kinds tokens.now) ≡ literal_kinds r.0 ++ drop r.1 (kinds tokens.now)) }
+    ensures refused { IfErr result (λ e. LacksLiteral (drop at (kinds tokens.now)) at e) }
+{
+    let minus = stands(tokens, at, Fixed::Dash);
+    if minus {
+        let value = digits(tokens, at + 1)?;
+        Ok((Literal { minus: true, digits: value }, at + 2))
+    } else {
+        let value = digits(tokens, at)?;
+        Ok((Literal { minus: false, digits: value }, at + 1))
+    }
+}
+
+fn push(literals: &mut Items<Literal>, literal: Literal) -> Result<(), ReadError>
+    ensures ok { OnOk result (literals.new ≡ literals.old ++ literal ∷ []) }
+    ensures err { IfErr result (λ e. e ≡ ReadError.NoMemory) }
+{
+    match literals.push(literal) {
+        Ok(()) => Ok(()),
+        Err(_) => Err(ReadError::NoMemory),
+    }
+}
+
+// One more operand, and the number after it.
+fn operand(tokens: &[Token], at: usize, claimed: &mut Items<Literal>) -> Result<usize, ReadError>
+    requires { All (λ t. IsSmallToken t.kind) tokens.now }
+    ensures grown { OnOk result (length claimed.new ≡ length claimed.old + 1) }
+    ensures small { All IsSmallLiteral claimed.old → OnOk result (All IsSmallLiteral claimed.new) }
+    ensures found { IfOk result (λ to. (h : Names) → scan_from (less ∷ []) (to_operand false h claimed.old) (kinds tokens.now) at ≡ scan_from [] (to_more h claimed.new) (kinds tokens.now) to) }
+    ensures refused { IfErr result (λ e. (h : Names) → IsStop (scan_from (less ∷ []) (to_operand false h claimed.old) (kinds tokens.now) at) e) }
+{
+    let inner = expect_one(tokens, at, Fixed::Less)?;
+    let (number, end) = literal(tokens, inner)?;
+    let to = expect_one(tokens, end, Fixed::Greater)?;
+    push(claimed, number)?;
+    Ok(to)
+}
+
+// One more statement, and the number after it.
+fn statement(tokens: &[Token], at: usize, output: &[u8], written: &mut Items<Literal>) -> Result<usize, ReadError>
+    requires { All (λ t. IsSmallToken t.kind) tokens.now }
+    ensures grown { OnOk result (length written.new ≡ length written.old + 1) }
+    ensures small { All IsSmallLiteral written.old → OnOk result (All IsSmallLiteral written.new) }
+    ensures found { IfOk result (λ to. (h : Names) (cs : List Literal) → h.output ≡ output.now → scan_from (opening ∷ []) (to_number false h cs written.old) (kinds tokens.now) at ≡ scan_from [] (to_body h cs written.new) (kinds tokens.now) to) }
+    ensures refused { IfErr result (λ e. (h : Names) (cs : List Literal) → h.output ≡ output.now → IsStop (scan_from (opening ∷ []) (to_number false h cs written.old) (kinds tokens.now) at) e) }
+{
+    let inner = expect_one(tokens, at, Fixed::Opening)?;
+    let (number, end) = literal(tokens, inner)?;
+    let name_at = expect_one(tokens, end, Fixed::Comma)?;
+    let last = expect_word(tokens, name_at, output)?;
+    let to = expect(tokens, last, &[Fixed::Closing, Fixed::Semicolon])?;
+    push(written, number)?;
+    Ok(to)
 }
