@@ -8,15 +8,16 @@ use Rattle.std.specs.Str.Parse.{digits_value}
 use Rattle.res_lexer.specs.declared.token.Token.{Token}
 use Rattle.res_lexer.specs.declared.token.TokenKind.{TokenKind}
 use Rattle.res_lexer.specs.declared.token.TokenKind.TheVariants as kind
-use Rattle.res_lexer.specs.Tokens.{AreTokens, Begin, Means}
+use Rattle.res_lexer.specs.Tokens.{AreTokens, Begin, Means, same_bytes}
 use Rattle.resolve_cli.specs.declared.reader.Fixed.{Fixed}
 use Rattle.resolve_cli.specs.declared.reader.ReadError.{ReadError}
 use Rattle.resolve_cli.specs.declared.reader.ReadError.TheVariants as error
-use Rattle.resolve_cli.specs.Form.{kinds, IsSmallToken, word, IsSmallLiteral, dash, greater, literal_kinds, less, semicolon, most, IsModule, IsRefusedAt}
+use Rattle.resolve_cli.specs.Form.{kinds, IsSmallToken, word, IsSmallLiteral, dash, greater, literal_kinds, signed, less, semicolon, most, IsModule, IsRefusedAt}
 use Rattle.resolve_cli.specs.declared.module.Literal.{Literal}
-use Rattle.resolve_cli.specs.Scan.{Names, Goal, to_name, to_claim, to_operand, to_more, to_again, to_body, to_number, to_end, State, at, same_kind, literal, to_close, to_last, to_procedure, Outcome, stopped, scan, scan_from}
-use Rattle.resolve_cli.specs.Reader.{IsStop, begins_with, fixed_kind, first_digits, digits_in, LacksLiteral, IsLacking}
-use Rattle.resolve_cli.proofs.Run.{kind_itself, kind_from_test}
+use Rattle.resolve_cli.specs.Reserved.{is_free}
+use Rattle.resolve_cli.specs.Scan.{Names, Goal, to_name, to_input, to_output, to_main, to_second, to_ensures, to_claim, to_operand, to_more, to_again, to_body, to_number, to_end, State, at, same_kind, literal, to_close, to_last, to_procedure, Outcome, stopped, scan, scan_from}
+use Rattle.resolve_cli.specs.Reader.{IsStop, begins_with, fixed_kind, first_digits, digits_in, first_name, LacksLiteral, IsLacking}
+use Rattle.resolve_cli.proofs.Run.{kind_itself, kind_from_test, same_from_test, same_as_itself}
 
 next_drop : (ts : List Token) (i : ℕ) (t : Token) → i < length ts → t ≡ get_or ts i t → drop i (kinds ts) ≡ t.kind ∷ drop (suc i) (kinds ts)
 next_drop [] i t less e = absurd (omega arith)
@@ -118,10 +119,19 @@ digits_front ks n value here = by_front (drop n ks) refl
         let same : m ≡ value = cc in
         uncons ks n (kind.Literal m) tail e ∙ ap (λ x. kind.Literal x ∷ drop (n + 1) ks) same
 
-pub minus_found : (ks : List TokenKind) (n : ℕ) (value : ℤ) → begins_with dash (drop n ks) ≡ true → first_digits (drop (n + 1) ks) ≡ Some value → drop n ks ≡ literal_kinds (literal true value) ++ drop (n + 2) ks
-minus_found ks n value minus here =
+pub minus_found : (ks : List TokenKind) (n : ℕ) (l : Literal) → begins_with dash (drop n ks) ≡ true → first_digits (drop (n + 1) ks) ≡ Some l.digits → l.minus ≡ true → drop n ks ≡ literal_kinds l ++ drop (n + 2) ks
+minus_found ks n l minus here sign =
     let two : n + 1 + 1 ≡ n + 2 = omega arith in
-    front_is dash ks n minus ∙ ap (λ l. dash ∷ l) (digits_front ks (n + 1) value here ∙ ap (λ j. kind.Literal value ∷ drop j ks) two)
+    front_is dash ks n minus
+    ∙ ap (λ x. dash ∷ x) (digits_front ks (n + 1) l.digits here ∙ ap (λ j. kind.Literal l.digits ∷ drop j ks) two)
+    ∙ ap (λ m. signed m l.digits ++ drop (n + 2) ks) (sym sign)
+
+pub plain_found : (ks : List TokenKind) (n : ℕ) (l : Literal) → first_digits (drop n ks) ≡ Some l.digits → l.minus ≡ false → drop n ks ≡ literal_kinds l ++ drop (n + 1) ks
+plain_found ks n l here sign =
+    digits_front ks n l.digits here ∙ ap (λ m. signed m l.digits ++ drop (n + 1) ks) (sym sign)
+
+pub literal_length : (l : Literal) (m : Bool) → l.minus ≡ m → length (literal_kinds l) ≡ length (signed m l.digits)
+literal_length l m e = ap (λ b. length (signed b l.digits)) e
 
 no_operand : (h : Names) (cs : List Literal) (n : ℕ) (xs : List TokenKind) → first_digits xs ≡ None → scan [] (to_operand true h cs) n xs ≡ stopped n
 no_operand h cs n [] none = refl
@@ -181,3 +191,112 @@ scan_number l h cs ds n to xs is = by_sign l.minus l.digits is
     by_sign true v e =
         let two : n + 1 + 1 ≡ to = omega (arith, e) in
         ap (λ j. scan (to_close h.output) (to_body h cs (ds ++ literal true v ∷ [])) j xs) two
+
+pub operand_reads : (l : Literal) (h : Names) (cs : List Literal) (ks : List TokenKind) (n to : ℕ) → drop n ks ≡ literal_kinds l ++ drop to ks → to ≡ n + length (literal_kinds l) → scan_from [] (to_operand false h cs) ks n ≡ scan_from (greater ∷ []) (to_more h (cs ++ l ∷ [])) ks to
+operand_reads l h cs ks n to e is = ap (scan [] (to_operand false h cs) n) e ∙ scan_operand l h cs n to (drop to ks) is
+
+pub number_reads : (l : Literal) (h : Names) (cs ds : List Literal) (output : List ℕ) (ks : List TokenKind) (n to : ℕ) → h.output ≡ output → drop n ks ≡ literal_kinds l ++ drop to ks → to ≡ n + length (literal_kinds l) → scan_from [] (to_number false h cs ds) ks n ≡ scan_from (to_close output) (to_body h cs (ds ++ l ∷ [])) ks to
+number_reads l h cs ds output ks n to same e is =
+    ap (scan [] (to_number false h cs ds) n) e ∙ scan_number l h cs ds n to (drop to ks) is ∙ ap (λ o. scan (to_close o) (to_body h cs (ds ++ l ∷ [])) to (drop to ks)) same
+
+-- ---- names
+
+record FreeWord (ks : List TokenKind) (n : ℕ) (w : List ℕ) : Type 0 where
+  front : drop n ks ≡ kind.Word w ∷ drop (n + 1) ks
+  free : is_free w ≡ true
+
+cond_some : (b : Bool) (v w : List ℕ) → cond b (Some v) None ≡ Some w → (b ≡ true) × (v ≡ w)
+cond_some true v w e = (refl, cc)
+cond_some false v w e = absurd (none_some w e)
+
+cond_none : (b : Bool) (v : List ℕ) → cond b (Some v) None ≡ None → b ≡ false
+cond_none false v e = refl
+cond_none true v e = absurd (none_some v (sym e))
+
+free_word_at : (ks : List TokenKind) (n : ℕ) (w : List ℕ) → first_name (drop n ks) ≡ Some w → FreeWord ks n w
+free_word_at ks n w here = by_front (drop n ks) refl
+  where
+    by_front : (xs : List TokenKind) → drop n ks ≡ xs → FreeWord ks n w
+    by_front [] e = absurd (none_some w (sym (ap first_name e) ∙ here))
+    by_front (kind.Literal v ∷ tail) e = absurd (none_some w (sym (ap first_name e) ∙ here))
+    by_front (kind.Symbol v ∷ tail) e = absurd (none_some w (sym (ap first_name e) ∙ here))
+    by_front (kind.Word v ∷ tail) e =
+        let both = cond_some (is_free v) v w (sym (ap first_name e) ∙ here) in
+        record { front = uncons ks n (kind.Word v) tail e ∙ ap (λ x. kind.Word x ∷ drop (n + 1) ks) both.1; free = subst (λ x. is_free x ≡ true) both.1 both.0 }
+
+pub name_reads : (ks : List TokenKind) (n : ℕ) (w : List ℕ) → first_name (drop n ks) ≡ Some w → scan_from [] to_name ks n ≡ scan_from to_main (to_input w) ks (n + 1)
+name_reads ks n w here =
+    let f = free_word_at ks n w here in
+    let tail : List TokenKind = drop (n + 1) ks in
+    let P : Bool → Type 0 = λ b. (elim (cond b (Some (at to_main (to_input w))) None) as (λ _. Outcome) [ None ↦ stopped n | Some s ↦ scan s.wanted s.goal (n + 1) tail ]) ≡ scan to_main (to_input w) (n + 1) tail in
+    ap (scan [] to_name n) f.front ∙ subst P (sym f.free) refl
+
+pub input_reads : (ks : List TokenKind) (n : ℕ) (name w : List ℕ) → first_name (drop n ks) ≡ Some w → scan_from [] (to_input name) ks n ≡ scan_from to_second (to_output name w) ks (n + 1)
+input_reads ks n name w here =
+    let f = free_word_at ks n w here in
+    let tail : List TokenKind = drop (n + 1) ks in
+    let P : Bool → Type 0 = λ b. (elim (cond b (Some (at to_second (to_output name w))) None) as (λ _. Outcome) [ None ↦ stopped n | Some s ↦ scan s.wanted s.goal (n + 1) tail ]) ≡ scan to_second (to_output name w) (n + 1) tail in
+    ap (scan [] (to_input name) n) f.front ∙ subst P (sym f.free) refl
+
+abbrev named : List ℕ → List ℕ → List ℕ → Names
+named n i w = record { name = n; input = i; output = w }
+
+pub output_reads : (ks : List TokenKind) (n : ℕ) (name input w : List ℕ) → first_name (drop n ks) ≡ Some w → (w ≡ input → ⊥) → scan_from [] (to_output name input) ks n ≡ scan_from (to_ensures w) (to_claim (named name input w)) ks (n + 1)
+output_reads ks n name input w here differ =
+    let f = free_word_at ks n w here in
+    let tail : List TokenKind = drop (n + 1) ks in
+    let s : State = at (to_ensures w) (to_claim (named name input w)) in
+    let other : same_bytes w input ≡ false = false_from_ne_true (same_bytes w input) (λ e. differ (same_from_test w input e)) in
+    let Go : Option State → Outcome = λ o. elim o as (λ _. Outcome) [ None ↦ stopped n | Some t ↦ scan t.wanted t.goal (n + 1) tail ] in
+    let P : Bool → Type 0 = λ b. Go (cond b (cond (same_bytes w input) None (Some s)) None) ≡ scan s.wanted s.goal (n + 1) tail in
+    let Q : Bool → Type 0 = λ b. Go (cond b None (Some s)) ≡ scan s.wanted s.goal (n + 1) tail in
+    ap (scan [] (to_output name input) n) f.front ∙ subst P (sym f.free) (subst Q (sym other) refl)
+
+pub output_same : (ks : List TokenKind) (n : ℕ) (name input w : List ℕ) → first_name (drop n ks) ≡ Some w → w ≡ input → scan_from [] (to_output name input) ks n ≡ stopped n
+output_same ks n name input w here same =
+    let f = free_word_at ks n w here in
+    let tail : List TokenKind = drop (n + 1) ks in
+    let s : State = at (to_ensures w) (to_claim (named name input w)) in
+    let equal : same_bytes w input ≡ true = subst (λ x. same_bytes w x ≡ true) same (same_as_itself w) in
+    let Go : Option State → Outcome = λ o. elim o as (λ _. Outcome) [ None ↦ stopped n | Some t ↦ scan t.wanted t.goal (n + 1) tail ] in
+    let P : Bool → Type 0 = λ b. Go (cond b (cond (same_bytes w input) None (Some s)) None) ≡ stopped n in
+    let Q : Bool → Type 0 = λ b. Go (cond b None (Some s)) ≡ stopped n in
+    ap (scan [] (to_output name input) n) f.front ∙ subst P (sym f.free) (subst Q (sym equal) refl)
+
+-- where no identifier stands, each of the three stops
+
+no_name : (xs : List TokenKind) (n : ℕ) → first_name xs ≡ None → scan [] to_name n xs ≡ stopped n
+no_name [] n e = refl
+no_name (kind.Literal v ∷ xs) n e = refl
+no_name (kind.Symbol v ∷ xs) n e = refl
+no_name (kind.Word v ∷ xs) n e =
+    let P : Bool → Type 0 = λ b. (elim (cond b (Some (at to_main (to_input v))) None) as (λ _. Outcome) [ None ↦ stopped n | Some s ↦ scan s.wanted s.goal (n + 1) xs ]) ≡ stopped n in
+    subst P (sym (cond_none (is_free v) v e)) refl
+
+no_input : (name : List ℕ) (xs : List TokenKind) (n : ℕ) → first_name xs ≡ None → scan [] (to_input name) n xs ≡ stopped n
+no_input name [] n e = refl
+no_input name (kind.Literal v ∷ xs) n e = refl
+no_input name (kind.Symbol v ∷ xs) n e = refl
+no_input name (kind.Word v ∷ xs) n e =
+    let P : Bool → Type 0 = λ b. (elim (cond b (Some (at to_second (to_output name v))) None) as (λ _. Outcome) [ None ↦ stopped n | Some s ↦ scan s.wanted s.goal (n + 1) xs ]) ≡ stopped n in
+    subst P (sym (cond_none (is_free v) v e)) refl
+
+no_output : (name input : List ℕ) (xs : List TokenKind) (n : ℕ) → first_name xs ≡ None → scan [] (to_output name input) n xs ≡ stopped n
+no_output name input [] n e = refl
+no_output name input (kind.Literal v ∷ xs) n e = refl
+no_output name input (kind.Symbol v ∷ xs) n e = refl
+no_output name input (kind.Word v ∷ xs) n e =
+    let P : Bool → Type 0 = λ b. (elim (cond b (cond (same_bytes v input) None (Some (at (to_ensures v) (to_claim (named name input v))))) None) as (λ _. Outcome) [ None ↦ stopped n | Some s ↦ scan s.wanted s.goal (n + 1) xs ]) ≡ stopped n in
+    subst P (sym (cond_none (is_free v) v e)) refl
+
+pub name_stops : (xs : List TokenKind) (n : ℕ) (e : ReadError) → IsLacking (first_name xs) n e → IsStop (scan [] to_name n xs) e
+name_stops xs n (error.NotYet k) lacks = no_name xs n lacks.1 ∙ ap stopped (sym lacks.0)
+name_stops xs n error.NoMemory lacks = tt
+
+pub input_stops : (name : List ℕ) (xs : List TokenKind) (n : ℕ) (e : ReadError) → IsLacking (first_name xs) n e → IsStop (scan [] (to_input name) n xs) e
+input_stops name xs n (error.NotYet k) lacks = no_input name xs n lacks.1 ∙ ap stopped (sym lacks.0)
+input_stops name xs n error.NoMemory lacks = tt
+
+pub output_stops : (name input : List ℕ) (xs : List TokenKind) (n : ℕ) (e : ReadError) → IsLacking (first_name xs) n e → IsStop (scan [] (to_output name input) n xs) e
+output_stops name input xs n (error.NotYet k) lacks = no_output name input xs n lacks.1 ∙ ap stopped (sym lacks.0)
+output_stops name input xs n error.NoMemory lacks = tt

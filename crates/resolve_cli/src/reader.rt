@@ -5,7 +5,7 @@ ghost use Rattle.res_lexer.specs.declared.token.TokenKind.{TokenKind};
 ghost use Rattle.resolve_cli.specs.declared.module.Literal.{Literal};
 ghost use Rattle.resolve_cli.specs.Reserved.{is_reserved};
 ghost use Rattle.resolve_cli.specs.Form.{IsModule, IsSmallLiteral, IsSmallToken, kinds, at_of, literal_kinds, word, most, less, opening};
-ghost use Rattle.resolve_cli.specs.Scan.{Names, Goal, to_name, to_input, to_output, to_claim, to_operand, to_more, to_again, to_body, to_number, to_end, accepted, form_of, literal, same_kind, start, scan, scan_from, to_close, to_last};
+ghost use Rattle.resolve_cli.specs.Scan.{Names, Goal, to_name, to_input, to_output, to_claim, to_operand, to_more, to_again, to_body, to_number, to_end, accepted, form_of, literal, same_kind, to_ensures, start, scan, scan_from, to_close, to_last};
 ghost use Rattle.resolve_cli.specs.Reader.{IsReadRefusal, IsStop, IsLacking, LacksLiteral, begins_with, fixed_kind, first_name, first_digits};
 
 use crate::module::{Form, Literal, Module};
@@ -266,16 +266,20 @@ fn identifier(alloc: Global, tokens: &[Token], at: usize) -> Result<Name, ReadEr
     }
 }
 
-// The digits at this number.
-fn digits(tokens: &[Token], at: usize) -> Result<i64, ReadError>
+// The literal whose digits stand at this number.
+fn digits(tokens: &[Token], at: usize, minus: bool) -> Result<Literal, ReadError>
     requires { All (λ t. IsSmallToken t.kind) tokens.now }
     ensures within { OnOk result (at < length tokens.now) }
-    ensures found { IfOk result (λ n. first_digits (drop at (kinds tokens.now)) ≡ Some n) }
-    ensures small { IfOk result (λ n. IsSmallLiteral (literal false n)) }
+    ensures found { IfOk result (λ l. first_digits (drop at (kinds tokens.now)) ≡ Some l.digits) }
+    ensures sign { IfOk result (λ l. l.minus ≡ minus) }
+    ensures small { IfOk result (λ l. IsSmallLiteral l) }
     ensures refused { IfErr result (λ e. IsLacking (first_digits (drop at (kinds tokens.now))) at e) }
 {
     match kind_at(tokens, at) {
-        Some(TokenKind::Literal(value)) => Ok(*value),
+        Some(TokenKind::Literal(value)) => Ok(Literal {
+            minus,
+            digits: *value,
+        }),
         Some(_) => Err(ReadError::NotYet { token: at }),
         None => Err(ReadError::NotYet { token: at }),
     }
@@ -291,11 +295,11 @@ fn literal(tokens: &[Token], at: usize) -> Result<(Literal, usize), ReadError>
 {
     let minus = stands(tokens, at, Fixed::Dash);
     if minus {
-        let value = digits(tokens, at + 1)?;
-        Ok((Literal { minus: true, digits: value }, at + 2))
+        let negative = digits(tokens, at + 1, true)?;
+        Ok((negative, at + 2))
     } else {
-        let value = digits(tokens, at)?;
-        Ok((Literal { minus: false, digits: value }, at + 1))
+        let positive = digits(tokens, at, false)?;
+        Ok((positive, at + 1))
     }
 }
 
@@ -339,4 +343,64 @@ fn statement(tokens: &[Token], at: usize, output: &[u8], written: &mut Items<Lit
     let to = expect(tokens, last, &[Fixed::Closing, Fixed::Semicolon])?;
     push(written, number)?;
     Ok(to)
+}
+
+// The module's name, and the number where the input's stands.
+fn module_name(alloc: Global, tokens: &[Token]) -> Result<(Name, usize), ReadError>
+    ensures found { IfOk result (λ r. scan_from start to_name (kinds tokens.now) 0 ≡ scan_from [] (to_input r.0) (kinds tokens.now) r.1) }
+    ensures refused { IfErr result (λ e. IsStop (scan_from start to_name (kinds tokens.now) 0) e) }
+{
+    let name_at = expect_one(tokens, 0, Fixed::Facility)?;
+    let name = identifier(alloc, tokens, name_at)?;
+    let to = expect(
+        tokens,
+        name_at + 1,
+        &[Fixed::Semicolon, Fixed::Operation, Fixed::Main, Fixed::Opening, Fixed::Updates],
+    )?;
+    Ok((name, to))
+}
+
+// The input's name, and the number where the output's stands.
+fn input_name(alloc: Global, tokens: &[Token], at: usize) -> Result<(Name, usize), ReadError>
+    ensures found { IfOk result (λ r. (n : List ℕ) → scan_from [] (to_input n) (kinds tokens.now) at ≡ scan_from [] (to_output n r.0) (kinds tokens.now) r.1) }
+    ensures refused { IfErr result (λ e. (n : List ℕ) → IsStop (scan_from [] (to_input n) (kinds tokens.now) at) e) }
+{
+    let name = identifier(alloc, tokens, at)?;
+    let to = expect(
+        tokens,
+        at + 1,
+        &[Fixed::Colon, Fixed::InStream, Fixed::Semicolon, Fixed::Updates],
+    )?;
+    Ok((name, to))
+}
+
+// An identifier other than the input's.
+fn other_identifier(alloc: Global, tokens: &[Token], at: usize, input: &[u8]) -> Result<Name, ReadError>
+    ensures within { OnOk result (at < length tokens.now) }
+    ensures found { IfOk result (λ w. (n : List ℕ) → scan_from [] (to_output n input.now) (kinds tokens.now) at ≡ scan_from (to_ensures w) (to_claim (record { name = n; input = input.now; output = w })) (kinds tokens.now) (at + 1)) }
+    ensures refused { IfErr result (λ e. (n : List ℕ) → IsStop (scan_from [] (to_output n input.now) (kinds tokens.now) at) e) }
+{
+    let name = identifier(alloc, tokens, at)?;
+    let same = name.bytes() == input;
+    if same {
+        Err(ReadError::NotYet { token: at })
+    } else {
+        Ok(name)
+    }
+}
+
+// The output's name, and the number where the claim begins.
+fn output_name(alloc: Global, tokens: &[Token], at: usize, input: &[u8]) -> Result<(Name, usize), ReadError>
+    ensures found { IfOk result (λ r. (n : List ℕ) → scan_from [] (to_output n input.now) (kinds tokens.now) at ≡ scan_from [] (to_claim (record { name = n; input = input.now; output = r.0 })) (kinds tokens.now) r.1) }
+    ensures refused { IfErr result (λ e. (n : List ℕ) → IsStop (scan_from [] (to_output n input.now) (kinds tokens.now) at) e) }
+{
+    let name = other_identifier(alloc, tokens, at, input)?;
+    let name_at = expect(
+        tokens,
+        at + 1,
+        &[Fixed::Colon, Fixed::OutStream, Fixed::Closing, Fixed::Semicolon, Fixed::Ensures],
+    )?;
+    let last = expect_word(tokens, name_at, name.bytes())?;
+    let to = expect_one(tokens, last, Fixed::Equals)?;
+    Ok((name, to))
 }

@@ -1,0 +1,10 @@
+use Rattle.std.proofs.Common.{◌≡◌, ◌+◌, List, [], ◌∷◌, ◌++◌, drop, refl, true, false, sym, ap, ◌∙◌, arith}
+use Rattle.std.proofs.lemmas.Result.{err_from_is_err_and}
+use Rattle.resolve_cli.specs.Form.{kinds, greater, semicolon, comma, closing, equals, word}
+use Rattle.resolve_cli.specs.Scan.{to_operand, to_more, to_number, to_body, to_input, to_output, to_claim, to_name, to_close, to_main, to_second, to_ensures, scan_from}
+use Rattle.resolve_cli.proofs.Reading as lemma
+use Rattle.resolve_cli.proofs.reader.other_identifier.Goals as goal
+
+pub returns-in_err-name-clause-refused : goal.returns-in_err-name-clause-refused
+returns-in_err-name-clause-refused c = 
+    let p = err_from_is_err_and c.from_residual.result c.from_residual.ensures.1 in rw (p.1, p.2) (λ n. lemma.output_stops n c.args.input.now _ _ _ c.in_err-name.ensures.refused)
