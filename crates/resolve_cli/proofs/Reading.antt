@@ -3,7 +3,8 @@ use Rattle.std.proofs.Common.{◌≡◌, ℕ, zero, suc, ◌+◌, ◌<◌, ◌�
 use Rattle.std.proofs.lemmas.Bool.{cases_Bool, true≢false, false_from_ne_true}
 use Rattle.std.proofs.lemmas.Bool.Decides.{nat_tests}
 use Rattle.std.proofs.lemmas.List.Elements.{All-cons, All-nil}
-use Rattle.std.specs.List.{list_any, All}
+use Rattle.std.specs.List.{All}
+use Rattle.std.specs.Prelude.{nat_lt, codes}
 use Rattle.std.specs.Str.Parse.{digits_value}
 use Rattle.res_lexer.specs.declared.token.Token.{Token}
 use Rattle.res_lexer.specs.declared.token.TokenKind.{TokenKind}
@@ -12,12 +13,12 @@ use Rattle.res_lexer.specs.Tokens.{AreTokens, Begin, Means, same_bytes}
 use Rattle.resolve_cli.specs.declared.reader.Fixed.{Fixed}
 use Rattle.resolve_cli.specs.declared.reader.ReadError.{ReadError}
 use Rattle.resolve_cli.specs.declared.reader.ReadError.TheVariants as error
-use Rattle.resolve_cli.specs.Form.{kinds, IsSmallToken, word, IsSmallLiteral, dash, greater, literal_kinds, signed, less, semicolon, most, IsModule, IsRefusedAt}
+use Rattle.resolve_cli.specs.Form.{kinds, IsSmallToken, word, IsSmallLiteral, dash, greater, literal_kinds, signed, less, opening, semicolon, most, IsModule, IsRefusedAt}
 use Rattle.resolve_cli.specs.declared.module.Literal.{Literal}
 use Rattle.resolve_cli.specs.Reserved.{is_free}
-use Rattle.resolve_cli.specs.Scan.{Names, Goal, to_name, to_input, to_output, to_main, to_second, to_ensures, to_claim, to_operand, to_more, to_again, to_body, to_number, to_end, State, at, same_kind, literal, to_close, to_last, to_procedure, Outcome, stopped, scan, scan_from}
+use Rattle.resolve_cli.specs.Scan.{Names, Goal, to_name, to_input, to_output, to_main, to_second, to_ensures, to_claim, to_operand, to_more, to_again, to_body, to_number, to_end, State, at, same_kind, literal, to_close, to_last, to_procedure, Outcome, accepted, stopped, form_of, exactly, scan, scan_from}
 use Rattle.resolve_cli.specs.Reader.{IsStop, begins_with, fixed_kind, first_digits, digits_in, first_name, LacksLiteral, IsLacking}
-use Rattle.resolve_cli.proofs.Run.{kind_itself, kind_from_test, same_from_test, same_as_itself}
+use Rattle.resolve_cli.proofs.Run.{lt_test, kind_itself, kind_from_test, same_from_test, same_as_itself}
 
 next_drop : (ts : List Token) (i : ℕ) (t : Token) → i < length ts → t ≡ get_or ts i t → drop i (kinds ts) ≡ t.kind ∷ drop (suc i) (kinds ts)
 next_drop [] i t less e = absurd (omega arith)
@@ -26,6 +27,12 @@ next_drop (x ∷ ts) (suc i) t less e = next_drop ts i t (omega arith) e
 
 pub drop_kinds : (ts : List Token) (i : ℕ) (t : Token) → i < length ts → t ≡ get_or ts i t → drop i (kinds ts) ≡ t.kind ∷ drop (i + 1) (kinds ts)
 drop_kinds ts i t less e = next_drop ts i t less e ∙ ap (λ j. t.kind ∷ drop j (kinds ts)) (sym (add-one i))
+
+drop_none : (ts : List Token) (n : ℕ) → length ts ≤ n → drop n (kinds ts) ≡ []
+drop_none [] zero le = refl
+drop_none [] (suc n) le = refl
+drop_none (t ∷ ts) zero le = absurd (omega arith)
+drop_none (t ∷ ts) (suc n) le = drop_none ts n (omega arith)
 
 -- ---- a wanted token
 
@@ -300,3 +307,85 @@ input_stops name xs n error.NoMemory lacks = tt
 pub output_stops : (name input : List ℕ) (xs : List TokenKind) (n : ℕ) (e : ReadError) → IsLacking (first_name xs) n e → IsStop (scan [] (to_output name input) n xs) e
 output_stops name input xs n (error.NotYet k) lacks = no_output name input xs n lacks.1 ∙ ap stopped (sym lacks.0)
 output_stops name input xs n error.NoMemory lacks = tt
+
+-- ---- operands and statements
+
+again_reads : (h : Names) (cs : List Literal) (n : ℕ) (xs : List TokenKind) → length cs < most → scan [] (to_again h cs) n xs ≡ scan (less ∷ []) (to_operand false h cs) n xs
+again_reads h cs n [] few = refl
+again_reads h cs n (k ∷ xs) few =
+    let Go : Option State → Outcome = λ o. elim o as (λ _. Outcome) [ None ↦ stopped n | Some t ↦ scan t.wanted t.goal (n + 1) xs ] in
+    let P : Bool → Type 0 = λ b. Go (cond b (cond (same_kind less k) (Some (at [] (to_operand false h cs))) None) None) ≡ Go (cond (same_kind less k) (Some (at [] (to_operand false h cs))) None) in
+    subst P (sym (lt_test (length cs) most few)) refl
+
+again_full : (h : Names) (cs : List Literal) (n : ℕ) (xs : List TokenKind) → length cs ≡ most → scan [] (to_again h cs) n xs ≡ stopped n
+again_full h cs n [] all = refl
+again_full h cs n (k ∷ xs) all =
+    let Go : Option State → Outcome = λ o. elim o as (λ _. Outcome) [ None ↦ stopped n | Some t ↦ scan t.wanted t.goal (n + 1) xs ] in
+    let P : ℕ → Type 0 = λ j. Go (cond (nat_lt j most) (cond (same_kind less k) (Some (at [] (to_operand false h cs))) None) None) ≡ stopped n in
+    subst P (sym all) refl
+
+pub join_reads : (h : Names) (cs : List Literal) (ks : List TokenKind) (n : ℕ) → begins_with (word (codes "o")) (drop n ks) ≡ true → length cs < most → scan_from [] (to_more h cs) ks n ≡ scan_from (less ∷ []) (to_operand false h cs) ks (n + 1)
+join_reads h cs ks n here few = ap (scan [] (to_more h cs) n) (front_is (word (codes "o")) ks n here) ∙ again_reads h cs (n + 1) (drop (n + 1) ks) few
+
+pub join_full : (h : Names) (cs : List Literal) (ks : List TokenKind) (n : ℕ) → begins_with (word (codes "o")) (drop n ks) ≡ true → length cs ≡ most → scan_from [] (to_more h cs) ks n ≡ stopped (n + 1)
+join_full h cs ks n here all = ap (scan [] (to_more h cs) n) (front_is (word (codes "o")) ks n here) ∙ again_full h cs (n + 1) (drop (n + 1) ks) all
+
+pub no_join : (h : Names) (cs : List Literal) (xs : List TokenKind) (n : ℕ) → begins_with (word (codes "o")) xs ≡ false → scan [] (to_more h cs) n xs ≡ scan to_procedure (to_body h cs []) n xs
+no_join h cs [] n other = refl
+no_join h cs (k ∷ xs) n other =
+    let Go : Option State → Outcome = λ o. elim o as (λ _. Outcome) [ None ↦ stopped n | Some t ↦ scan t.wanted t.goal (n + 1) xs ] in
+    let P : Bool → Type 0 = λ b. Go (cond b (Some (at [] (to_again h cs))) (exactly to_procedure (to_body h cs []) k)) ≡ Go (exactly to_procedure (to_body h cs []) k) in
+    subst P (sym other) refl
+
+pub claim_none : (h : Names) (ks : List TokenKind) (n : ℕ) → begins_with (word (codes "Empty_String")) (drop n ks) ≡ true → scan_from [] (to_claim h) ks n ≡ scan_from to_procedure (to_body h [] []) ks (n + 1)
+claim_none h ks n here = ap (scan [] (to_claim h) n) (front_is (word (codes "Empty_String")) ks n here)
+
+pub claim_some : (h : Names) (xs : List TokenKind) (n : ℕ) → begins_with (word (codes "Empty_String")) xs ≡ false → scan [] (to_claim h) n xs ≡ scan (less ∷ []) (to_operand false h []) n xs
+claim_some h [] n other = refl
+claim_some h (k ∷ xs) n other =
+    let Go : Option State → Outcome = λ o. elim o as (λ _. Outcome) [ None ↦ stopped n | Some t ↦ scan t.wanted t.goal (n + 1) xs ] in
+    let some : Option State = cond (same_kind less k) (Some (at [] (to_operand false h []))) None in
+    let P : Bool → Type 0 = λ b. Go (cond b (Some (at to_procedure (to_body h [] []))) some) ≡ Go some in
+    subst P (sym other) refl
+
+pub write_reads : (h : Names) (cs ds : List Literal) (ks : List TokenKind) (n : ℕ) → begins_with (word (codes "Write")) (drop n ks) ≡ true → length ds < most → scan_from [] (to_body h cs ds) ks n ≡ scan_from (opening ∷ []) (to_number false h cs ds) ks (n + 1)
+write_reads h cs ds ks n here few =
+    let xs : List TokenKind = drop (n + 1) ks in
+    let Go : Option State → Outcome = λ o. elim o as (λ _. Outcome) [ None ↦ stopped n | Some t ↦ scan t.wanted t.goal (n + 1) xs ] in
+    let P : Bool → Type 0 = λ b. Go (cond b (Some (at (opening ∷ []) (to_number false h cs ds))) None) ≡ scan (opening ∷ []) (to_number false h cs ds) (n + 1) xs in
+    ap (scan [] (to_body h cs ds) n) (front_is (word (codes "Write")) ks n here) ∙ subst P (sym (lt_test (length ds) most few)) refl
+
+pub write_full : (h : Names) (cs ds : List Literal) (ks : List TokenKind) (n : ℕ) → begins_with (word (codes "Write")) (drop n ks) ≡ true → length ds ≡ most → scan_from [] (to_body h cs ds) ks n ≡ stopped n
+write_full h cs ds ks n here all =
+    let xs : List TokenKind = drop (n + 1) ks in
+    let Go : Option State → Outcome = λ o. elim o as (λ _. Outcome) [ None ↦ stopped n | Some t ↦ scan t.wanted t.goal (n + 1) xs ] in
+    let P : ℕ → Type 0 = λ j. Go (cond (nat_lt j most) (Some (at (opening ∷ []) (to_number false h cs ds))) None) ≡ stopped n in
+    ap (scan [] (to_body h cs ds) n) (front_is (word (codes "Write")) ks n here) ∙ subst P (sym all) refl
+
+pub no_write : (h : Names) (cs ds : List Literal) (xs : List TokenKind) (n : ℕ) → begins_with (word (codes "Write")) xs ≡ false → scan [] (to_body h cs ds) n xs ≡ scan (to_last h.name) (to_end h cs ds) n xs
+no_write h cs ds [] n other = refl
+no_write h cs ds (k ∷ xs) n other =
+    let Go : Option State → Outcome = λ o. elim o as (λ _. Outcome) [ None ↦ stopped n | Some t ↦ scan t.wanted t.goal (n + 1) xs ] in
+    let full : Option State = cond (nat_lt (length ds) most) (Some (at (opening ∷ []) (to_number false h cs ds))) None in
+    let last : Option State = exactly (to_last h.name) (to_end h cs ds) k in
+    let P : Bool → Type 0 = λ b. Go (cond b full last) ≡ Go last in
+    subst P (sym other) refl
+
+-- after the last `;`
+pub ends : (h : Names) (cs ds : List Literal) (ts : List Token) (n : ℕ) → length ts ≤ n → scan_from [] (to_end h cs ds) (kinds ts) n ≡ accepted (form_of h cs ds)
+ends h cs ds ts n le = ap (scan [] (to_end h cs ds) n) (drop_none ts n (omega arith))
+
+pub more_stops : (h : Names) (cs ds : List Literal) (ts : List Token) (n : ℕ) → n < length ts → scan_from [] (to_end h cs ds) (kinds ts) n ≡ stopped n
+more_stops h cs ds [] n less = absurd (omega arith)
+more_stops h cs ds (t ∷ ts) n less =
+    ap (scan [] (to_end h cs ds) n) (drop_kinds (t ∷ ts) n (get_or (t ∷ ts) n t) less (get_default (t ∷ ts) n t less))
+  where
+    get_default : (us : List Token) (i : ℕ) (d : Token) → i < length us → get_or us i d ≡ get_or us i (get_or us i d)
+    get_default [] i d small = absurd (omega arith)
+    get_default (u ∷ us) zero d small = refl
+    get_default (u ∷ us) (suc i) d small = other_default us i d (get_or us i d) (omega arith)
+      where
+        other_default : (vs : List Token) (j : ℕ) (a b : Token) → j < length vs → get_or vs j a ≡ get_or vs j b
+        other_default [] j a b few = absurd (omega arith)
+        other_default (v ∷ vs) zero a b few = refl
+        other_default (v ∷ vs) (suc j) a b few = other_default vs j a b (omega arith)

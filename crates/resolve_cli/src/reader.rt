@@ -374,6 +374,12 @@ fn input_name(alloc: Global, tokens: &[Token], at: usize) -> Result<(Name, usize
     Ok((name, to))
 }
 
+fn same_name(name: &Name, bytes: &[u8]) -> bool
+    ensures { IsTrue result ↔ (name.now ≡ bytes.now) }
+{
+    name.bytes() == bytes
+}
+
 // An identifier other than the input's.
 fn other_identifier(alloc: Global, tokens: &[Token], at: usize, input: &[u8]) -> Result<Name, ReadError>
     ensures within { OnOk result (at < length tokens.now) }
@@ -381,8 +387,7 @@ fn other_identifier(alloc: Global, tokens: &[Token], at: usize, input: &[u8]) ->
     ensures refused { IfErr result (λ e. (n : List ℕ) → IsStop (scan_from [] (to_output n input.now) (kinds tokens.now) at) e) }
 {
     let name = identifier(alloc, tokens, at)?;
-    let same = name.bytes() == input;
-    if same {
+    if same_name(&name, input) {
         Err(ReadError::NotYet { token: at })
     } else {
         Ok(name)
@@ -403,4 +408,104 @@ fn output_name(alloc: Global, tokens: &[Token], at: usize, input: &[u8]) -> Resu
     let last = expect_word(tokens, name_at, name.bytes())?;
     let to = expect_one(tokens, last, Fixed::Equals)?;
     Ok((name, to))
+}
+
+// The operands after the first, and the number where the body begins.
+fn more_operands(tokens: &[Token], at: usize, claimed: &mut Items<Literal>) -> Result<usize, ReadError>
+    requires tokens { All (λ t. IsSmallToken t.kind) tokens.now }
+    requires few { length claimed.old ≤ most }
+    ensures small { All IsSmallLiteral claimed.old → OnOk result (All IsSmallLiteral claimed.new) }
+    ensures found { IfOk result (λ to. (h : Names) → scan_from [] (to_more h claimed.old) (kinds tokens.now) at ≡ scan_from [] (to_body h claimed.new []) (kinds tokens.now) to) }
+    ensures refused { IfErr result (λ e. (h : Names) → IsStop (scan_from [] (to_more h claimed.old) (kinds tokens.now) at) e) }
+{
+    let mut place = at;
+    while stands(tokens, place, Fixed::Join) {
+        if claimed.len() == MOST {
+            return Err(ReadError::NotYet { token: place + 1 });
+        }
+        place = operand(tokens, place + 1, claimed)?;
+    }
+    let to = expect(tokens, place, &[Fixed::Semicolon, Fixed::Procedure])?;
+    Ok(to)
+}
+
+// The operands of the claim, and the number where the body begins.
+fn operands(alloc: Global, tokens: &[Token], at: usize) -> Result<(Items<Literal>, usize), ReadError>
+    requires { All (λ t. IsSmallToken t.kind) tokens.now }
+    ensures small { IfOk result (λ r. All IsSmallLiteral r.0) }
+    ensures found { IfOk result (λ r. (h : Names) → scan_from [] (to_claim h) (kinds tokens.now) at ≡ scan_from [] (to_body h r.0 []) (kinds tokens.now) r.1) }
+    ensures refused { IfErr result (λ e. (h : Names) → IsStop (scan_from [] (to_claim h) (kinds tokens.now) at) e) }
+{
+    let mut claimed = Items::new(alloc);
+    let none = stands(tokens, at, Fixed::EmptyString);
+    if none {
+        let body = expect(tokens, at + 1, &[Fixed::Semicolon, Fixed::Procedure])?;
+        Ok((claimed, body))
+    } else {
+        let first = operand(tokens, at, &mut claimed)?;
+        let to = more_operands(tokens, first, &mut claimed)?;
+        Ok((claimed, to))
+    }
+}
+
+// What the statements write, and the number after them.
+fn statements(alloc: Global, tokens: &[Token], at: usize, output: &[u8]) -> Result<(Items<Literal>, usize), ReadError>
+    requires { All (λ t. IsSmallToken t.kind) tokens.now }
+    ensures small { IfOk result (λ r. All IsSmallLiteral r.0) }
+    ensures found { IfOk result (λ r. (h : Names) (cs : List Literal) → h.output ≡ output.now → scan_from [] (to_body h cs []) (kinds tokens.now) at ≡ scan_from (to_last h.name) (to_end h cs r.0) (kinds tokens.now) r.1) }
+    ensures refused { IfErr result (λ e. (h : Names) (cs : List Literal) → h.output ≡ output.now → IsStop (scan_from [] (to_body h cs []) (kinds tokens.now) at) e) }
+{
+    let mut written = Items::new(alloc);
+    let mut place = at;
+    while stands(tokens, place, Fixed::Write) {
+        if written.len() == MOST {
+            return Err(ReadError::NotYet { token: place });
+        }
+        place = statement(tokens, place + 1, output, &mut written)?;
+    }
+    Ok((written, place))
+}
+
+// That the body's end and the module's stand here, and nothing after them; the place in the file of the former.
+fn ending(tokens: &[Token], at: usize, name: &[u8]) -> Result<u32, ReadError>
+    ensures place { IfOk result (λ place. place ≡ at_of (slice_get tokens.now (length tokens.now - 6))) }
+    ensures found { IfOk result (λ place. (h : Names) (cs ds : List Literal) → h.name ≡ name.now → scan_from (to_last h.name) (to_end h cs ds) (kinds tokens.now) at ≡ accepted (form_of h cs ds)) }
+    ensures refused { IfErr result (λ e. (h : Names) (cs ds : List Literal) → h.name ≡ name.now → IsStop (scan_from (to_last h.name) (to_end h cs ds) (kinds tokens.now) at) e) }
+{
+    let name_at = expect(
+        tokens,
+        at,
+        &[Fixed::End, Fixed::Main, Fixed::Semicolon, Fixed::End],
+    )?;
+    let last = expect_word(tokens, name_at, name)?;
+    let to = expect_one(tokens, last, Fixed::Semicolon)?;
+    if to < tokens.len() {
+        return Err(ReadError::NotYet { token: to });
+    }
+    Ok(tokens[to - 6].at)
+}
+
+/// The module whose tokens these are: `NotYet` at the first token that no module with the same tokens before it
+/// has, at the first token of a 65th operand or statement, or where the tokens end too early.
+pub fn read_module(alloc: Global, tokens: &[Token]) -> Result<Module, ReadError>
+    requires small { All (λ t. IsSmallToken t.kind) tokens.now }
+    ensures found { IfOk result (λ m. IsModule (kinds tokens.now) m.form) }
+    ensures end { IfOk result (λ m. m.end_at ≡ at_of (slice_get tokens.now (length tokens.now - 6))) }
+    ensures small { IfOk result (λ m. All IsSmallLiteral m.form.claimed × All IsSmallLiteral m.form.written) }
+    ensures refused { IfErr result (λ e. IsReadRefusal (kinds tokens.now) e) }
+{
+    let (name, input_at) = module_name(alloc, tokens)?;
+    let (input, output_at) = input_name(alloc, tokens, input_at)?;
+    let (output, claim_at) = output_name(alloc, tokens, output_at, input.bytes())?;
+    let (claimed, body_at) = operands(alloc, tokens, claim_at)?;
+    let (written, end) = statements(alloc, tokens, body_at, output.bytes())?;
+    let end_at = ending(tokens, end, name.bytes())?;
+    let form = Form {
+        name,
+        input,
+        output,
+        claimed,
+        written,
+    };
+    Ok(Module { form, end_at })
 }
