@@ -1,10 +1,10 @@
 -- The places of tokens, and what the tests of the reader say of the scan there.
-use Rattle.std.proofs.Common.{◌≡◌, ℕ, zero, suc, ◌+◌, ◌<◌, ◌≤◌, ◌↔◌, ◌⊎◌, ⊎_elim, Bool, true, false, cond, ℤ, pos, ◌≤ℤ◌, List, [], ◌∷◌, ◌++◌, length, map, take, drop, get_or, Option, Some, None, refl, sym, ap, ◌∙◌, subst, add-one, arith, drop-drop, drop-cons}
+use Rattle.std.proofs.Common.{◌≡◌, ℕ, zero, suc, ◌+◌, ◌-◌, ◌<◌, ◌≤◌, ◌↔◌, ◌⊎◌, ⊎_elim, Bool, true, false, cond, ℤ, pos, ◌≤ℤ◌, List, [], ◌∷◌, ◌++◌, length, map, take, drop, get_or, Option, Some, None, refl, sym, ap, ◌∙◌, subst, add-one, arith, drop-drop, drop-cons}
 use Rattle.std.proofs.lemmas.Bool.{cases_Bool, true≢false, false_from_ne_true}
 use Rattle.std.proofs.lemmas.Bool.Decides.{nat_tests}
 use Rattle.std.proofs.lemmas.List.Elements.{All-cons, All-nil}
 use Rattle.std.specs.List.{All}
-use Rattle.std.specs.Prelude.{nat_lt, codes}
+use Rattle.std.specs.Prelude.{nat_lt, codes, slice_get}
 use Rattle.std.specs.Str.Parse.{digits_value}
 use Rattle.res_lexer.specs.declared.token.Token.{Token}
 use Rattle.res_lexer.specs.declared.token.TokenKind.{TokenKind}
@@ -13,7 +13,7 @@ use Rattle.res_lexer.specs.Tokens.{AreTokens, Begin, Means, same_bytes}
 use Rattle.resolve_cli.specs.declared.reader.Fixed.{Fixed}
 use Rattle.resolve_cli.specs.declared.reader.ReadError.{ReadError}
 use Rattle.resolve_cli.specs.declared.reader.ReadError.TheVariants as error
-use Rattle.resolve_cli.specs.Form.{kinds, IsSmallToken, word, IsSmallLiteral, dash, greater, literal_kinds, signed, less, opening, semicolon, most, IsModule, IsRefusedAt}
+use Rattle.resolve_cli.specs.Form.{kinds, at_of, IsSmallToken, word, IsSmallLiteral, dash, greater, literal_kinds, signed, less, opening, semicolon, most, IsModule, IsRefusedAt}
 use Rattle.resolve_cli.specs.declared.module.Literal.{Literal}
 use Rattle.resolve_cli.specs.Reserved.{is_free}
 use Rattle.resolve_cli.specs.Scan.{Names, Goal, to_name, to_input, to_output, to_main, to_second, to_ensures, to_claim, to_operand, to_more, to_again, to_body, to_number, to_end, State, at, same_kind, literal, to_close, to_last, to_procedure, Outcome, accepted, stopped, form_of, exactly, scan, scan_from}
@@ -389,3 +389,12 @@ more_stops h cs ds (t ∷ ts) n less =
         other_default [] j a b few = absurd (omega arith)
         other_default (v ∷ vs) zero a b few = refl
         other_default (v ∷ vs) (suc j) a b few = other_default vs j a b (omega arith)
+
+get_place : (ts : List Token) (i : ℕ) (d : Token) → i < length ts → (get_or ts i d).at ≡ at_of (slice_get ts i)
+get_place [] i d less = absurd (omega arith)
+get_place (t ∷ ts) zero d less = refl
+get_place (t ∷ ts) (suc i) d less = get_place ts i d (omega arith)
+
+-- the place of the sixth token from the end
+pub place_at : (ts : List Token) (to : ℕ) (d : Token) → to ≡ length ts → 6 ≤ to → (get_or ts (to - 6) d).at ≡ at_of (slice_get ts (length ts - 6))
+place_at ts to d end some = get_place ts (to - 6) d (omega arith) ∙ ap (λ j. at_of (slice_get ts (j - 6))) end

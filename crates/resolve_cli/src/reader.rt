@@ -3,6 +3,8 @@
 ghost use Rattle.std.specs.Prelude.{◌≡◌, ℕ, ◌+◌, ◌-◌, ◌<◌, ◌≤◌, ◌↔◌, false, true, List, [], ◌∷◌, ◌++◌, length, map, drop, All, Some, IsTrue, IfOk, IfErr, OnOk, MatchOption, MatchResult, slice_get};
 ghost use Rattle.res_lexer.specs.declared.token.TokenKind.{TokenKind};
 ghost use Rattle.resolve_cli.specs.declared.module.Literal.{Literal};
+ghost use Rattle.std.specs.List.{list_any};
+ghost use Rattle.res_lexer.specs.Tokens.{same_bytes};
 ghost use Rattle.resolve_cli.specs.Reserved.{is_reserved};
 ghost use Rattle.resolve_cli.specs.Form.{IsModule, IsSmallLiteral, IsSmallToken, kinds, at_of, literal_kinds, word, most, less, opening};
 ghost use Rattle.resolve_cli.specs.Scan.{Names, Goal, to_name, to_input, to_output, to_claim, to_operand, to_more, to_again, to_body, to_number, to_end, accepted, form_of, literal, same_kind, to_ensures, start, scan, scan_from, to_close, to_last};
@@ -157,15 +159,27 @@ static RESERVED: [&[u8]; 74] = [
     b"Static_Array",
 ];
 
-fn is_reserved(name: &[u8]) -> bool
-    ensures { result ≡ is_reserved name.now }
+fn equal(a: &[u8], b: &[u8]) -> bool
+    ensures { IsTrue result ↔ (a.now ≡ b.now) }
 {
-    for word in RESERVED.iter() {
-        if name == *word {
+    a == b
+}
+
+fn is_one_of(name: &[u8], words: &[&[u8]]) -> bool
+    ensures { result ≡ list_any (λ w. same_bytes name.now w.now) words.now }
+{
+    for word in words {
+        if equal(name, *word) {
             return true;
         }
     }
     false
+}
+
+fn is_reserved(name: &[u8]) -> bool
+    ensures { result ≡ is_reserved name.now }
+{
+    is_one_of(name, &RESERVED)
 }
 
 // The kind of the token of this number, or `None` after the last one.

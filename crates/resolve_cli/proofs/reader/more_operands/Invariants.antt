@@ -5,12 +5,12 @@ use Rattle.resolve_cli.specs.Form.{kinds, IsSmallLiteral, most}
 use Rattle.resolve_cli.specs.Scan.{Names, to_more, to_body, scan_from}
 use Rattle.resolve_cli.proofs.reader.more_operands.Given as goal
 
-abbrev pub invariant-loop-place : goal.invariant-loop-place
-invariant-loop-place l = record {
+abbrev pub invariant-loop-claimed : goal.invariant-loop-claimed
+invariant-loop-claimed l = record {
   few : length l.claimed ≤ most;
-  small : All IsSmallLiteral l.fn.claimed.now → All IsSmallLiteral l.claimed;
-  same : (h : Names) → scan_from [] (to_more h l.fn.claimed.now) (kinds l.tokens) l.at ≡ scan_from [] (to_more h l.claimed) (kinds l.tokens) l.place;
+  small : All IsSmallLiteral l.initial.claimed → All IsSmallLiteral l.claimed;
+  same : (h : Names) → scan_from [] (to_more h l.initial.claimed) (kinds l.tokens) l.at ≡ scan_from [] (to_more h l.claimed) (kinds l.tokens) l.place;
 }
 
-abbrev pub decreases-loop-place : goal.decreases-loop-place
-decreases-loop-place l = 65 - length l.claimed
+abbrev pub decreases-loop-claimed : goal.decreases-loop-claimed
+decreases-loop-claimed l = 65 - length l.claimed
