@@ -8,6 +8,9 @@ use Rattle.res_lexer.specs.declared.token.TokenKind.{TokenKind}
 use Rattle.res_lexer.specs.Tokens.{same_bytes}
 use Rattle.resolve_cli.specs.declared.module.Literal.{Literal}
 use Rattle.resolve_cli.specs.declared.module.Form.{Form}
+use Rattle.resolve_cli.specs.declared.reader.ReadError.{ReadError}
+use Rattle.resolve_cli.specs.declared.reader.ReadError.TheVariants as error
+use Rattle.resolve_cli.specs.Reader.{IsStop, IsReadRefusal}
 use Rattle.resolve_cli.specs.Reserved.{is_free}
 use Rattle.resolve_cli.specs.Form.{IsForm, IsSmall, IsModule, IsBegun, IsFull, MayStand, begun, full, IsRefusedAt, kinds_of, head_kinds, chain_kinds, middle_kinds, tail_kinds, most, word, semicolon}
 use Rattle.resolve_cli.specs.Scan.{Names, Goal, to_name, to_input, to_output, to_claim, to_operand, to_more, to_again, to_body, to_number, to_end, State, at, literal, form_of, next, start, Outcome, accepted, stopped, goal_end, at_end, scan}
@@ -261,6 +264,10 @@ stopped_is ks k e =
           d.ended all (names_of f) f.claimed f.written states;
     } in
     subst (IsRefusedAt ks) same refused
+
+pub refusal : (ks : List TokenKind) (e : ReadError) → IsStop (scan start to_name 0 ks) e → IsReadRefusal ks e
+refusal ks (error.NotYet k) h = stopped_is ks k h
+refusal ks error.NoMemory h = tt
 
 -- ---- the laws
 

@@ -25,4 +25,4 @@ pub returns-clause-found : goal.returns-clause-found
 returns-clause-found c = λ h cs ds same. ap (λ o. scan_from (to_last o) (to_end h cs ds) (kinds c.args.tokens.now) c.args.at) same ∙ c.in_ok-name_at.ensures.found (word c.args.name.now ∷ semicolon ∷ []) (to_end h cs ds) ∙ c.in_ok-last.ensures.found (semicolon ∷ []) (to_end h cs ds) ∙ c.in_ok-to.ensures.found [] (to_end h cs ds) ∙ lemma.ends h cs ds c.args.tokens.now c.in_ok-to.to (omega arith)
 
 pub returns-clause-place : goal.returns-clause-place
-returns-clause-place c = lemma.place_at c.args.tokens.now c.in_ok-to.to c.index-tokens-to.result (omega arith) (omega arith)
+returns-clause-place c = lemma.place_at c.args.tokens.now c.in_ok-to.to c.index-tokens-to.result (omega (arith, c.in_ok-to.ensures.next.0, c.in_ok-to.ensures.next.1, c.in_ok-last.ensures.next.0, c.in_ok-name_at.ensures.next, c.if-to-tokens.false)) (omega (arith, c.in_ok-to.ensures.next.0, c.in_ok-to.ensures.next.1, c.in_ok-last.ensures.next.0, c.in_ok-name_at.ensures.next, c.if-to-tokens.false))
