@@ -343,7 +343,12 @@ fn operand(tokens: &[Token], at: usize, claimed: &mut Items<Literal>) -> Result<
 }
 
 // One more statement, and the number after it.
-fn statement(tokens: &[Token], at: usize, output: &[u8], written: &mut Items<Literal>) -> Result<usize, ReadError>
+fn statement(
+    tokens: &[Token],
+    at: usize,
+    output: &[u8],
+    written: &mut Items<Literal>,
+) -> Result<usize, ReadError>
     requires { All (λ t. IsSmallToken t.kind) tokens.now }
     ensures grown { OnOk result (length written.new ≡ length written.old + 1) }
     ensures small { All IsSmallLiteral written.old → OnOk result (All IsSmallLiteral written.new) }
@@ -369,7 +374,13 @@ fn module_name(alloc: Global, tokens: &[Token]) -> Result<(Name, usize), ReadErr
     let to = expect(
         tokens,
         name_at + 1,
-        &[Fixed::Semicolon, Fixed::Operation, Fixed::Main, Fixed::Opening, Fixed::Updates],
+        &[
+            Fixed::Semicolon,
+            Fixed::Operation,
+            Fixed::Main,
+            Fixed::Opening,
+            Fixed::Updates,
+        ],
     )?;
     Ok((name, to))
 }
@@ -383,7 +394,12 @@ fn input_name(alloc: Global, tokens: &[Token], at: usize) -> Result<(Name, usize
     let to = expect(
         tokens,
         at + 1,
-        &[Fixed::Colon, Fixed::InStream, Fixed::Semicolon, Fixed::Updates],
+        &[
+            Fixed::Colon,
+            Fixed::InStream,
+            Fixed::Semicolon,
+            Fixed::Updates,
+        ],
     )?;
     Ok((name, to))
 }
@@ -395,7 +411,12 @@ fn same_name(name: &Name, bytes: &[u8]) -> bool
 }
 
 // An identifier other than the input's.
-fn other_identifier(alloc: Global, tokens: &[Token], at: usize, input: &[u8]) -> Result<Name, ReadError>
+fn other_identifier(
+    alloc: Global,
+    tokens: &[Token],
+    at: usize,
+    input: &[u8],
+) -> Result<Name, ReadError>
     ensures within { OnOk result (at < length tokens.now) }
     ensures found { IfOk result (λ w. (n : List ℕ) → scan_from [] (to_output n input.now) (kinds tokens.now) at ≡ scan_from (to_ensures w) (to_claim (record { name = n; input = input.now; output = w })) (kinds tokens.now) (at + 1)) }
     ensures refused { IfErr result (λ e. (n : List ℕ) → IsStop (scan_from [] (to_output n input.now) (kinds tokens.now) at) e) }
@@ -409,7 +430,12 @@ fn other_identifier(alloc: Global, tokens: &[Token], at: usize, input: &[u8]) ->
 }
 
 // The output's name, and the number where the claim begins.
-fn output_name(alloc: Global, tokens: &[Token], at: usize, input: &[u8]) -> Result<(Name, usize), ReadError>
+fn output_name(
+    alloc: Global,
+    tokens: &[Token],
+    at: usize,
+    input: &[u8],
+) -> Result<(Name, usize), ReadError>
     ensures found { IfOk result (λ r. (n : List ℕ) → scan_from [] (to_output n input.now) (kinds tokens.now) at ≡ scan_from [] (to_claim (record { name = n; input = input.now; output = r.0 })) (kinds tokens.now) r.1) }
     ensures refused { IfErr result (λ e. (n : List ℕ) → IsStop (scan_from [] (to_output n input.now) (kinds tokens.now) at) e) }
 {
@@ -417,7 +443,13 @@ fn output_name(alloc: Global, tokens: &[Token], at: usize, input: &[u8]) -> Resu
     let name_at = expect(
         tokens,
         at + 1,
-        &[Fixed::Colon, Fixed::OutStream, Fixed::Closing, Fixed::Semicolon, Fixed::Ensures],
+        &[
+            Fixed::Colon,
+            Fixed::OutStream,
+            Fixed::Closing,
+            Fixed::Semicolon,
+            Fixed::Ensures,
+        ],
     )?;
     let last = expect_word(tokens, name_at, name.bytes())?;
     let to = expect_one(tokens, last, Fixed::Equals)?;
@@ -425,7 +457,11 @@ fn output_name(alloc: Global, tokens: &[Token], at: usize, input: &[u8]) -> Resu
 }
 
 // The operands after the first, and the number where the body begins.
-fn more_operands(tokens: &[Token], at: usize, claimed: &mut Items<Literal>) -> Result<usize, ReadError>
+fn more_operands(
+    tokens: &[Token],
+    at: usize,
+    claimed: &mut Items<Literal>,
+) -> Result<usize, ReadError>
     requires tokens { All (λ t. IsSmallToken t.kind) tokens.now }
     requires few { length claimed.old ≤ most }
     ensures small { All IsSmallLiteral claimed.old → OnOk result (All IsSmallLiteral claimed.new) }
@@ -444,7 +480,11 @@ fn more_operands(tokens: &[Token], at: usize, claimed: &mut Items<Literal>) -> R
 }
 
 // The operands of the claim, and the number where the body begins.
-fn operands(alloc: Global, tokens: &[Token], at: usize) -> Result<(Items<Literal>, usize), ReadError>
+fn operands(
+    alloc: Global,
+    tokens: &[Token],
+    at: usize,
+) -> Result<(Items<Literal>, usize), ReadError>
     requires { All (λ t. IsSmallToken t.kind) tokens.now }
     ensures small { IfOk result (λ r. All IsSmallLiteral r.0) }
     ensures found { IfOk result (λ r. (h : Names) → scan_from [] (to_claim h) (kinds tokens.now) at ≡ scan_from [] (to_body h r.0 []) (kinds tokens.now) r.1) }
@@ -463,7 +503,12 @@ fn operands(alloc: Global, tokens: &[Token], at: usize) -> Result<(Items<Literal
 }
 
 // What the statements write, and the number after them.
-fn statements(alloc: Global, tokens: &[Token], at: usize, output: &[u8]) -> Result<(Items<Literal>, usize), ReadError>
+fn statements(
+    alloc: Global,
+    tokens: &[Token],
+    at: usize,
+    output: &[u8],
+) -> Result<(Items<Literal>, usize), ReadError>
     requires { All (λ t. IsSmallToken t.kind) tokens.now }
     ensures small { IfOk result (λ r. All IsSmallLiteral r.0) }
     ensures found { IfOk result (λ r. (h : Names) (cs : List Literal) → h.output ≡ output.now → scan_from [] (to_body h cs []) (kinds tokens.now) at ≡ scan_from (to_last h.name) (to_end h cs r.0) (kinds tokens.now) r.1) }
@@ -522,4 +567,56 @@ pub fn read_module(alloc: Global, tokens: &[Token]) -> Result<Module, ReadError>
         written,
     };
     Ok(Module { form, end_at })
+}
+
+#[cfg(test)]
+mod tests {
+    use super::*;
+    use crate::form_laws;
+    use res_lexer::tokens;
+    use std::test::Fail;
+
+    // The place of the end and the literals of the module of a text, or the refusal.
+    fn shown(alloc: Global, text: &[u8]) -> Result<String, Fail> {
+        let mut line = String::new(alloc);
+        if text.len() > 1000 {
+            return Ok(line);
+        }
+        let list = tokens(alloc, text)?;
+        form_laws::small_tokens();
+        match read_module(alloc, list.as_slice()) {
+            Ok(module) => {
+                let end_at = module.end_at;
+                write!(line, "{end_at}:")?;
+                for literal in module.form.claimed.as_slice() {
+                    let digits = literal.digits;
+                    write!(line, " {digits}")?;
+                }
+                write!(line, ";")?;
+                for literal in module.form.written.as_slice() {
+                    let digits = literal.digits;
+                    write!(line, " {digits}")?;
+                }
+            }
+            Err(error) => write!(line, "{error:?}")?,
+        }
+        Ok(line)
+    }
+
+    #[test]
+    fn shows_modules(rt: HostRuntime) -> Result<(), Fail> {
+        let rows = [
+            (
+                "Facility One_Two;\n  Operation Main(updates In: In_Stream; updates Out: Out_Stream);\n    ensures Out = <1> o <2>;\n  Procedure\n    Write(1, Out);\n    Write(2, Out);\n  end Main;\nend One_Two;\n",
+                "165: 1 2; 1 2",
+            ),
+            ("", "NotYet { token: 0 }"),
+            ("Facility X; end X;", "NotYet { token: 3 }"),
+        ];
+        for (text, expected) in rows {
+            let line = shown(rt.alloc(), text.as_bytes())?;
+            assert_eq!(rt; line.as_str(), expected);
+        }
+        Ok(())
+    }
 }

@@ -6,11 +6,11 @@ use Rattle.resolve_cli.proofs.Reading as lemma
 use Rattle.resolve_cli.proofs.reader.literal.Goals as goal
 
 pub returns-in_err-negative-clause-refused : goal.returns-in_err-negative-clause-refused
-returns-in_err-negative-clause-refused c = 
+returns-in_err-negative-clause-refused c =
     let p = err_from_is_err_and c.from_residual.result c.from_residual.ensures.1 in rw (p.1, p.2) (lemma.minus_lacks (kinds c.args.tokens.now) c.args.at c.in_err-negative.field-0.0 (sym c.if-minus.ensures.is) c.in_err-negative.ensures.refused)
 
 pub returns-in_err-positive-clause-refused : goal.returns-in_err-positive-clause-refused
-returns-in_err-positive-clause-refused c = 
+returns-in_err-positive-clause-refused c =
     let p = err_from_is_err_and c.from_residual-in_err-positive.result c.from_residual-in_err-positive.ensures.1 in rw (p.1, p.2) (lemma.plain_lacks (kinds c.args.tokens.now) c.args.at c.in_err-positive.field-0.0 (sym c.if-minus.ensures.is) c.in_err-positive.ensures.refused)
 
 pub returns-in_ok-negative-clause-found : goal.returns-in_ok-negative-clause-found

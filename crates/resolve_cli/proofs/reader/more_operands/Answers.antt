@@ -10,7 +10,7 @@ pub returns-then-len-eq-MOST-clause-refused : goal.returns-then-len-eq-MOST-clau
 returns-then-len-eq-MOST-clause-refused c = λ h. c.loop-claimed.invariant.same h ∙ lemma.join_full h c.loop-claimed.claimed (kinds c.args.tokens.now) c.loop-claimed.place (sym c.loop-claimed-test.ensures.is) (omega (arith, c.len.ensures, c.if-len-eq-MOST.true))
 
 pub returns-in_err-place-clause-refused : goal.returns-in_err-place-clause-refused
-returns-in_err-place-clause-refused c = 
+returns-in_err-place-clause-refused c =
     let p = err_from_is_err_and c.from_residual.result c.from_residual.ensures.1 in rw (p.1, p.2) (λ h. lemma.stop_after _ _ _ (c.loop-claimed.invariant.same h ∙ lemma.join_reads h c.loop-claimed.claimed (kinds c.args.tokens.now) c.loop-claimed.place (sym c.loop-claimed-test.ensures.is) (omega (arith, c.len.ensures, c.if-len-eq-MOST.false, c.loop-claimed.invariant.few))) (c.in_err-place.ensures.refused h))
 
 pub loop-claimed-preserved : goal.loop-claimed-preserved
@@ -21,7 +21,7 @@ loop-claimed-preserved c = record {
 }
 
 pub returns-in_err-to-clause-refused : goal.returns-in_err-to-clause-refused
-returns-in_err-to-clause-refused c = 
+returns-in_err-to-clause-refused c =
     let p = err_from_is_err_and c.from_residual-in_err-to.result c.from_residual-in_err-to.ensures.1 in rw (p.1, p.2) (λ h. lemma.stop_after _ _ _ (c.loop-claimed.invariant.same h ∙ lemma.no_join h c.loop-claimed.claimed (drop c.loop-claimed.place (kinds c.args.tokens.now)) c.loop-claimed.place (sym c.loop-claimed-test.ensures.is)) (c.in_err-to.ensures.refused [] (to_body h c.loop-claimed.claimed [])))
 
 pub returns-clause-found : goal.returns-clause-found

@@ -7,7 +7,7 @@ use Rattle.resolve_cli.proofs.Reading as lemma
 use Rattle.resolve_cli.proofs.reader.other_identifier.Goals as goal
 
 pub returns-in_err-name-clause-refused : goal.returns-in_err-name-clause-refused
-returns-in_err-name-clause-refused c = 
+returns-in_err-name-clause-refused c =
     let p = err_from_is_err_and c.from_residual.result c.from_residual.ensures.1 in rw (p.1, p.2) (λ n. lemma.output_stops n c.args.input.now (drop c.args.at (kinds c.args.tokens.now)) c.args.at c.in_err-name.field-0.0 c.in_err-name.ensures.refused)
 
 pub returns-then-same_name-clause-refused : goal.returns-then-same_name-clause-refused
