@@ -4,4 +4,10 @@ pub mod Machine
 pub mod Computing
 pub mod Growing
 pub mod Ran
+pub mod Answering
 pub mod Gathering
+pub mod Run
+pub mod Reached
+pub mod Refusals
+pub mod Reading
+pub mod Tables

@@ -155,10 +155,12 @@ pub record IsRefusedAt (ks : List TokenKind) (k : ℕ) : Type 0 where
   pub ended : k ≡ length ks → (f : Form) → IsModule ks f → ⊥
 
 -- the place in the file of the token of a number, or the file's length
+abbrev pub place_or : ℕ → Option Token → ℕ
+place_or len None = len
+place_or len (Some t) = t.at
+
 abbrev pub place_of : List Token → ℕ → ℕ → ℕ
-place_of [] len k = len
-place_of (t ∷ ts) len zero = t.at
-place_of (t ∷ ts) len (suc k) = place_of ts len k
+place_of ts len k = place_or len (slice_get ts k)
 
 -- A text is refused at a place, since its form is not built.
 abbrev pub IsNotYet : List ℕ → ℕ → Type 0

@@ -6,3 +6,5 @@ pub mod Condition
 pub mod Texts
 pub mod Answer
 pub mod Resolves
+pub mod Scan
+pub mod Reader

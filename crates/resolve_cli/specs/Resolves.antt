@@ -1,5 +1,5 @@
 -- What the top call leaves: on out, on notes, and of the files.
-use Rattle.std.specs.Prelude.{◌≡◌, ℕ, ℤ, ◌⊎◌, List, [], ◌++◌, Option, Some, Bool, IsTrue, map}
+use Rattle.std.specs.Prelude.{◌≡◌, ℕ, ℤ, ◌<◌, ◌≤◌, ◌⊎◌, List, [], ◌++◌, Option, Some, None, Bool, IsTrue, map, length}
 use Rattle.edge_io.specs.Faults.{Rose}
 use Rattle.edge_io.specs.Files.{Files, SameFiles}
 use Rattle.edge_io.specs.Held.{Grew, GrewByPrefix}
@@ -7,7 +7,10 @@ use Rattle.stack_machine.specs.Lines.{lines}
 use Rattle.resolve_cli.specs.declared.status.Status.{Status}
 use Rattle.resolve_cli.specs.declared.status.Status.TheVariants as status
 use Rattle.resolve_cli.specs.Words.{Word, Run, command}
-use Rattle.resolve_cli.specs.Answer.{Answers, TextAnswers, IsRight}
+use Rattle.resolve_cli.specs.Answer.{Answers, TextAnswers, IsRight, most_component_bytes}
+use Rattle.resolve_cli.specs.Condition.{IsProvedForm}
+use Rattle.resolve_cli.specs.Texts.{unproved_line}
+use Rattle.resolve_cli.specs.declared.module.Module.{Module}
 use Rattle.resolve_cli.specs.declared.module.Form.{Form}
 use Rattle.resolve_cli.specs.Form.{number_of}
 
@@ -53,6 +56,37 @@ TextAnswered name bytes status.BadWords old new = ⊥
 TextAnswered name bytes (status.NotFound file) old new = ⊥
 TextAnswered name bytes (status.FileTooLong file) old new = ⊥
 TextAnswered name bytes status.NotBuilt old new = ⊥
+
+-- What a module answers and leaves on out: its output where its condition is proved, and else its line.
+abbrev pub ModuleAnswered : Module → Status → Option (List ℕ) → Option (List ℕ) → Type 0
+ModuleAnswered m status.Done old new = IsProvedForm m.form × Grew old new (lines (map number_of m.form.written))
+ModuleAnswered m (status.Refused line) old new = (IsProvedForm m.form → ⊥) × (line ≡ unproved_line m.form.name m.end_at) × Grew old new []
+ModuleAnswered m status.SinkFault old new = IsProvedForm m.form × GrewByPrefix old new (lines (map number_of m.form.written))
+ModuleAnswered m status.NoMemory old new = Grew old new [] ⊎ (IsProvedForm m.form × GrewByPrefix old new (lines (map number_of m.form.written)))
+ModuleAnswered m status.ShelfFault old new = ⊥
+ModuleAnswered m status.BadWords old new = ⊥
+ModuleAnswered m (status.NotFound file) old new = ⊥
+ModuleAnswered m (status.FileTooLong file) old new = ⊥
+ModuleAnswered m status.NotBuilt old new = ⊥
+
+-- What a file answers that has this text, or is not there, and leaves on out.
+abbrev pub ShortText : Option (List ℕ) → List ℕ → Type 0
+ShortText file bytes = (file ≡ Some bytes) × (length bytes ≤ most_component_bytes)
+
+abbrev pub FileAnswered : List ℕ → Option (List ℕ) → Status → Option (List ℕ) → Option (List ℕ) → Type 0
+FileAnswered name file (status.NotFound n) old new = (n ≡ name) × (file ≡ None) × Grew old new []
+FileAnswered name file (status.FileTooLong n) old new = (n ≡ name) × (bytes : List ℕ) × (file ≡ Some bytes) × (most_component_bytes < length bytes) × Grew old new []
+FileAnswered name file status.ShelfFault old new = Grew old new []
+FileAnswered name file status.NoMemory old new = Grew old new [] ⊎ ((bytes : List ℕ) × ShortText file bytes × GotTextPrefix name bytes old new)
+FileAnswered name file status.SinkFault old new = (bytes : List ℕ) × ShortText file bytes × GotTextPrefix name bytes old new
+FileAnswered name file status.Done old new = (bytes : List ℕ) × ShortText file bytes × GotText name bytes status.Done old new
+FileAnswered name file (status.Refused line) old new = (bytes : List ℕ) × ShortText file bytes × GotText name bytes (status.Refused line) old new
+FileAnswered name file status.BadWords old new = ⊥
+FileAnswered name file status.NotBuilt old new = ⊥
+
+-- The file of a name is the shelf's, where it tells.
+abbrev pub SawFile : Bool → Files → List ℕ → Option (List ℕ) → Type 0
+SawFile tells shelf name file = IsTrue tells → shelf name ≡ file
 
 -- what a run of a module's image leaves on out
 abbrev pub ModuleRan : Form → Status → Option (List ℕ) → Option (List ℕ) → Type 0

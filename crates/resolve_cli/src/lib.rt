@@ -3,12 +3,15 @@
 
 mod compile;
 mod condition;
+pub mod form_laws;
 pub mod module;
 mod notes;
 mod proving;
+pub mod reader;
 mod running;
 mod status;
 mod texts;
+mod top;
 pub mod words;
 
 pub use status::Status;

@@ -1,0 +1,179 @@
+-- From what a module leaves on out to the answer of the words.
+use Rattle.std.proofs.Common.{◌≡◌, ◌∙◌, sym, ap, refl, subst, ℕ, ◌+◌, ◌-◌, ◌≤◌, ◌<◌, ℤ, Bool, true, false, List, [], ◌∷◌, ◌++◌, length, take, map, Option, Some, None, inl, inr, arith}
+use Rattle.std.specs.Prelude.{IsTrue, ◌⊎◌, slice_get, option_map}
+use Rattle.math_terms.specs.Laws.{SubstitutionKeepsValues, EqualityIsSameness}
+use Rattle.edge_io.specs.Files.{Files, SameFiles}
+use Rattle.edge_io.specs.Held.{Grew, GrewByPrefix}
+use Rattle.res_lexer.specs.declared.token.Token.{Token}
+use Rattle.res_lexer.specs.declared.token.TokenKind.{TokenKind}
+use Rattle.res_lexer.specs.declared.token.LexError.{LexError}
+use Rattle.res_lexer.specs.Tokens.{AreTokens, Refuses}
+use Rattle.stack_machine.specs.Machine.{State, after}
+use Rattle.stack_machine.specs.Lines.{lines}
+use Rattle.resolve_cli.specs.declared.module.Form.{Form}
+use Rattle.resolve_cli.specs.declared.module.Module.{Module}
+use Rattle.resolve_cli.specs.declared.status.Status.{Status}
+use Rattle.resolve_cli.specs.declared.status.Status.TheVariants as status
+use Rattle.resolve_cli.specs.Form.{number_of, kinds, IsModule, IsRefusedAt, IsNotYet, Spells, at_of, place_of}
+use Rattle.resolve_cli.specs.Condition.{condition_of, IsProved, IsProvedForm, IsValidCondition, Allows}
+use Rattle.resolve_cli.specs.Texts.{unproved_line}
+use Rattle.resolve_cli.specs.Words.{Word, Command, Run, Other, command, read_words, command_of}
+use Rattle.resolve_cli.specs.Answer.{image_of, most_steps, most_component_bytes, Runs, Halts, IsRefusedWith, HasNoTokens, HasNoForm, HasNoProof, TextAnswers, FileAnswers, Answers, IsRight}
+use Rattle.resolve_cli.specs.Resolves.{Got, GotPrefix, Answered, Saw, SawFile, GotText, GotTextPrefix, TextAnswered, ModuleAnswered, FileAnswered, ShortText, RanRight}
+use Rattle.resolve_cli.proofs.Machine.{over, halted_at, never_stuck}
+use Rattle.resolve_cli.proofs.Ran.{Stays}
+use Rattle.resolve_cli.proofs.Sound.{proved_valid, valid_allows}
+
+-- the laws of the crates below, as their functions state them
+pub record Laws : Type 0 where
+  pub stays : Stays
+  pub one_reading : (bytes : List ℕ) (ts us : List Token) → AreTokens bytes ts → AreTokens bytes us → ts ≡ us
+  pub read_or_refused : (bytes : List ℕ) (ts : List Token) (e : LexError) → AreTokens bytes ts → Refuses bytes e → ⊥
+  pub one_form : (ks : List TokenKind) (f g : Form) → IsModule ks f → IsModule ks g → f ≡ g
+  pub no_module_refused : (ks : List TokenKind) (f : Form) (k : ℕ) → IsModule ks f → IsRefusedAt ks k → ⊥
+
+nothing_grew : (old new : Option (List ℕ)) (out : List ℕ) → Grew old new [] → GrewByPrefix old new out
+nothing_grew old new out grew = (0, grew)
+
+module _ (laws : Laws) where
+  -- a text spells one module
+  same_module : (bytes : List ℕ) (m n : Module) → Spells bytes m → Spells bytes n → m ≡ n
+  same_module bytes m n (ts, are, is, end) (us, are', is', end') =
+      let same = laws.one_reading bytes ts us are are' in
+      let forms = laws.one_form (kinds us) m.form n.form (subst (λ vs. IsModule (kinds vs) m.form) same is) is' in
+      let ends = end ∙ ap (λ vs. at_of (slice_get vs (length vs - 6))) same ∙ sym end' in
+      λ i. record { form = forms i; end_at = ends i }
+
+  no_tokens_spelled : (bytes : List ℕ) (m : Module) (e : LexError) → Spells bytes m → Refuses bytes e → ⊥
+  no_tokens_spelled bytes m e (ts, are, is, end) refuses = laws.read_or_refused bytes ts e are refuses
+
+  not_yet_spelled : (bytes : List ℕ) (m : Module) (at : ℕ) → Spells bytes m → IsNotYet bytes at → ⊥
+  not_yet_spelled bytes m at (ts, are, is, end) (us, k, are', refused, place) =
+      laws.no_module_refused (kinds ts) m.form k is (subst (λ vs. IsRefusedAt (kinds vs) k) (sym (laws.one_reading bytes ts us are are')) refused)
+
+  -- the halted machine has written the module's numbers
+  halts_with : (m : Module) (bytes : List ℕ) (written : List ℤ) → Spells bytes m → Halts m written → written ≡ map number_of m.form.written
+  unfolding most_steps
+  halts_with m bytes written (ts, are, is, end) h =
+      let few = is.1.written in
+      let there = halted_at laws.stays m.form.written most_steps few (omega arith) in
+      let same : Some h.state ≡ Some (over (map number_of m.form.written)) = sym h.reached ∙ there in
+      let states : h.state ≡ over (map number_of m.form.written) = cc in
+      sym h.output ∙ ap (λ s. s.output) states
+
+  halts_at_end : (m : Module) (bytes : List ℕ) → Spells bytes m → Halts m (map number_of m.form.written)
+  unfolding most_steps
+  halts_at_end m bytes (ts, are, is, end) =
+      record { state = over (map number_of m.form.written); reached = halted_at laws.stays m.form.written most_steps is.1.written (omega arith); over = refl; output = refl }
+
+  -- where a module is proved, its answer is its numbers
+  module_only : (name bytes : List ℕ) (m : Module) → Spells bytes m → IsProvedForm m.form → (s : Status) (out : List ℕ) → TextAnswers name bytes s out → out ≡ lines (map number_of m.form.written)
+  module_only name bytes m spells proved status.Done out (n, written, spells', proved', halts, is) =
+      is ∙ ap lines (halts_with n bytes written spells' halts) ∙ ap (λ (k : Module). lines (map number_of k.form.written)) (same_module bytes n m spells' spells)
+  module_only name bytes m spells proved (status.Refused line) out (inl (e, refuses, is), none) = absurd (no_tokens_spelled bytes m e spells refuses)
+  module_only name bytes m spells proved (status.Refused line) out (inr (inl (at, not, is)), none) = absurd (not_yet_spelled bytes m at spells not)
+  module_only name bytes m spells proved (status.Refused line) out (inr (inr (n, spells', open_, is)), none) =
+      absurd (open_ (subst (λ (k : Module). IsProvedForm k.form) (same_module bytes m n spells spells') proved))
+  module_only name bytes m spells proved status.BadWords out h = absurd h
+  module_only name bytes m spells proved status.NotBuilt out h = absurd h
+  module_only name bytes m spells proved (status.NotFound file) out h = absurd h
+  module_only name bytes m spells proved (status.FileTooLong file) out h = absurd h
+  module_only name bytes m spells proved status.ShelfFault out h = absurd h
+  module_only name bytes m spells proved status.SinkFault out h = absurd h
+  module_only name bytes m spells proved status.NoMemory out h = absurd h
+
+  prefix_of_module : (name bytes : List ℕ) (m : Module) (old new : Option (List ℕ)) → Spells bytes m → IsProvedForm m.form → GrewByPrefix old new (lines (map number_of m.form.written)) → GotTextPrefix name bytes old new
+  prefix_of_module name bytes m old new spells proved grew = λ s out answers.
+      subst (λ bs. GrewByPrefix old new bs) (sym (module_only name bytes m spells proved s out answers)) grew
+
+  -- what a module leaves is what its text leaves
+  pub text_answered : (name bytes : List ℕ) (m : Module) (s : Status) (old new : Option (List ℕ)) → Spells bytes m → ModuleAnswered m s old new → TextAnswered name bytes s old new
+  text_answered name bytes m status.Done old new spells (proved, grew) =
+      (lines (map number_of m.form.written), (m, map number_of m.form.written, spells, proved, halts_at_end m bytes spells, refl), grew)
+  text_answered name bytes m (status.Refused line) old new spells (open_, is, grew) = ([], (inr (inr (m, spells, open_, is)), refl), grew)
+  text_answered name bytes m status.SinkFault old new spells (proved, grew) = prefix_of_module name bytes m old new spells proved grew
+  text_answered name bytes m status.NoMemory old new spells (inl grew) = λ s out answers. nothing_grew old new out grew
+  text_answered name bytes m status.NoMemory old new spells (inr (proved, grew)) = prefix_of_module name bytes m old new spells proved grew
+  text_answered name bytes m status.ShelfFault old new spells h = h
+  text_answered name bytes m status.BadWords old new spells h = h
+  text_answered name bytes m (status.NotFound file) old new spells h = h
+  text_answered name bytes m (status.FileTooLong file) old new spells h = h
+  text_answered name bytes m status.NotBuilt old new spells h = h
+
+  -- A text whose answer is Done spells a module that is right.
+  pub right_text : SubstitutionKeepsValues → EqualityIsSameness → (name bytes out : List ℕ) → TextAnswers name bytes status.Done out → (written : List ℤ) × IsRight bytes written × (out ≡ lines written)
+  right_text keeps sameness name bytes out (m, written, spells, proved, halts, is) =
+      let valid = proved_valid sameness keeps m proved in
+      let allowed = valid_allows sameness m valid in
+      let numbers = halts_with m bytes written spells halts in
+      (written, record { spelled = m; spells = spells; valid = valid; never_stuck = never_stuck laws.stays m.form.written; halts = (most_steps, halts.state, halts.reached, halts.over, halts.output); allowed = subst (λ ns. Allows m.form [] [] ns) (sym numbers) allowed }, is)
+
+-- the words say one command
+same_file : (words : List Word) (m n : List ℕ) → command words ≡ Some (Run m) → command words ≡ Some (Run n) → m ≡ n
+same_file words m n e f = let g : Some (Run m) ≡ Some (Run n) = sym e ∙ f in cc
+
+no_words : (words : List Word) (name : List ℕ) → read_words words ≡ None → command words ≡ Some (Run name) → ⊥
+no_words words name e f = let g : option_map command_of None ≡ Some (Run name) = ap (option_map command_of) (sym e) ∙ f in absurd (cc)
+
+no_other : (words : List Word) (name : List ℕ) → command words ≡ Some Other → command words ≡ Some (Run name) → ⊥
+no_other words name e f = let g : Some Other ≡ Some (Run name) = sym e ∙ f in absurd (cc)
+
+no_file : (files : Files) (name bytes : List ℕ) → files name ≡ None → files name ≡ Some bytes → ⊥
+no_file files name bytes e f = let g : None ≡ Some bytes = sym e ∙ f in absurd (cc)
+
+same_text : (files : Files) (name a b : List ℕ) → files name ≡ Some a → files name ≡ Some b → a ≡ b
+same_text files name a b e f = let g : Some a ≡ Some b = sym e ∙ f in cc
+
+module _ (words : List Word) (files : Files) (name bytes : List ℕ) (says : command words ≡ Some (Run name)) (holds : files name ≡ Some bytes) (short : length bytes ≤ most_component_bytes) where
+  -- whatever the words answer, the file's text answers
+  prefix_of_text : (old new : Option (List ℕ)) → GotTextPrefix name bytes old new → GotPrefix words files old new
+  prefix_of_text old new text status.BadWords out (e, is) = absurd (no_words words name e says)
+  prefix_of_text old new text status.NotBuilt out (e, is) = absurd (no_other words name e says)
+  prefix_of_text old new text (status.NotFound n) out (e, none, is) =
+      absurd (no_file files name bytes (ap files (sym (same_file words n name e says)) ∙ none) holds)
+  prefix_of_text old new text (status.FileTooLong n) out (e, bs, held, long, is) =
+      let same = same_text files name bs bytes (ap files (sym (same_file words n name e says)) ∙ held) holds in
+      absurd (omega (arith, short, long, ap length same))
+  prefix_of_text old new text (status.Refused line) out (n, bs, runs, answers) =
+      let names = same_file words n name runs.says says in
+      let texts = same_text files name bs bytes (ap files (sym names) ∙ runs.holds) holds in
+      text (status.Refused line) out (subst (λ k. TextAnswers k bytes (status.Refused line) out) names (subst (λ k. TextAnswers n k (status.Refused line) out) texts answers))
+  prefix_of_text old new text status.Done out (n, bs, runs, answers) =
+      let names = same_file words n name runs.says says in
+      let texts = same_text files name bs bytes (ap files (sym names) ∙ runs.holds) holds in
+      text status.Done out (subst (λ k. TextAnswers k bytes status.Done out) names (subst (λ k. TextAnswers n k status.Done out) texts answers))
+  prefix_of_text old new text status.ShelfFault out h = absurd h
+  prefix_of_text old new text status.SinkFault out h = absurd h
+  prefix_of_text old new text status.NoMemory out h = absurd h
+
+  runs_file : Runs words files name bytes
+  runs_file = record { says = says; holds = holds; short = short }
+
+  got_text : (s : Status) (old new : Option (List ℕ)) → GotText name bytes s old new → (out : List ℕ) × FileAnswers words files s out × Grew old new out
+  got_text s old new (out, answers, grew) = (out, (name, bytes, runs_file, answers), grew)
+
+-- What a file leaves is what the words leave.
+pub answered : (words : List Word) (files : Files) (name : List ℕ) (file : Option (List ℕ)) (s : Status) (old new : Option (List ℕ)) → command words ≡ Some (Run name) → files name ≡ file → FileAnswered name file s old new → Answered words files s old new
+answered words files name file (status.NotFound n) old new says is (same, none, grew) =
+    ([], (says ∙ ap (λ k. Some (Run k)) (sym same), ap files same ∙ is ∙ none, refl), grew)
+answered words files name file (status.FileTooLong n) old new says is (same, bytes, held, long, grew) =
+    ([], (says ∙ ap (λ k. Some (Run k)) (sym same), bytes, ap files same ∙ is ∙ held, long, refl), grew)
+answered words files name file status.ShelfFault old new says is grew = grew
+answered words files name file status.NoMemory old new says is (inl grew) = λ s out answers. nothing_grew old new out grew
+answered words files name file status.NoMemory old new says is (inr (bytes, text, got)) = prefix_of_text words files name bytes says (is ∙ text.0) text.1 old new got
+answered words files name file status.SinkFault old new says is (bytes, text, got) = prefix_of_text words files name bytes says (is ∙ text.0) text.1 old new got
+answered words files name file status.Done old new says is (bytes, text, got) = got_text words files name bytes says (is ∙ text.0) text.1 status.Done old new got
+answered words files name file (status.Refused line) old new says is (bytes, text, got) = got_text words files name bytes says (is ∙ text.0) text.1 (status.Refused line) old new got
+answered words files name file status.BadWords old new says is h = absurd h
+answered words files name file status.NotBuilt old new says is h = absurd h
+
+-- some files that agree with a shelf, where it tells, have what was seen of one
+pub seen : (tells : Bool) (shelf : Files) (name : List ℕ) (file : Option (List ℕ)) → SawFile tells shelf name file → (files : Files) × Saw tells shelf files × (files name ≡ file)
+seen true shelf name file saw = (shelf, λ t n. refl, saw refl)
+seen false shelf name file saw = ((λ n. file), (λ t. absurd (cc)), refl)
+
+-- The words that are carried out ran a module that is right.
+pub ran_right : Laws → SubstitutionKeepsValues → EqualityIsSameness → (words : List Word) (tells : Bool) (shelf files : Files) (old new : Option (List ℕ)) → Saw tells shelf files → Answered words files status.Done old new → RanRight words tells shelf old new
+ran_right laws keeps sameness words tells shelf files old new saw (out, (name, bytes, runs, answers), grew) =
+    let right = right_text laws keeps sameness name bytes out answers in
+    record { name = name; bytes = bytes; written = right.0; says = runs.says; held = (λ t. sym (saw t name) ∙ runs.holds); right = right.1; grew = subst (λ bs. Grew old new bs) right.2 grew }

@@ -1,0 +1,18 @@
+use Rattle.std.proofs.Common.{◌≡◌, ◌+◌, ℕ, List, [], ◌∷◌, ◌++◌, drop, length, refl, true, false, sym, ap, ◌∙◌, arith}
+use Rattle.std.proofs.lemmas.Bool.{true≢false}
+use Rattle.std.proofs.lemmas.Result.{err_from_is_err_and}
+use Rattle.resolve_cli.specs.Form.{kinds, greater, semicolon, comma, closing, equals, word, less}
+use Rattle.resolve_cli.specs.Scan.{to_operand, to_more, to_number, to_body, to_input, to_output, to_claim, to_name, to_end, to_close, to_main, to_second, to_ensures, to_last, to_procedure, scan_from}
+use Rattle.resolve_cli.proofs.Reading as lemma
+use Rattle.resolve_cli.proofs.reader.input_name.Goals as goal
+
+pub returns-in_err-name-clause-refused : goal.returns-in_err-name-clause-refused
+returns-in_err-name-clause-refused c =
+    let p = err_from_is_err_and c.from_residual.result c.from_residual.ensures.1 in rw (p.1, p.2) (λ n. lemma.input_stops n (drop c.args.at (kinds c.args.tokens.now)) c.args.at c.in_err-name.field-0.0 c.in_err-name.ensures.refused)
+
+pub returns-in_err-to-clause-refused : goal.returns-in_err-to-clause-refused
+returns-in_err-to-clause-refused c =
+    let p = err_from_is_err_and c.from_residual-in_err-to.result c.from_residual-in_err-to.ensures.1 in rw (p.1, p.2) (λ n. lemma.stop_after _ _ _ (lemma.input_reads (kinds c.args.tokens.now) c.args.at n c.in_ok-name.name c.in_ok-name.ensures.found) (c.in_err-to.ensures.refused [] (to_output n c.in_ok-name.name)))
+
+pub returns-clause-found : goal.returns-clause-found
+returns-clause-found c = λ n. lemma.input_reads (kinds c.args.tokens.now) c.args.at n c.in_ok-name.name c.in_ok-name.ensures.found ∙ c.in_ok-to.ensures.found [] (to_output n c.in_ok-name.name)
