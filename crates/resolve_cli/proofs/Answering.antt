@@ -1,13 +1,16 @@
 -- From what a module leaves on out to the answer of the words.
-use Rattle.std.proofs.Common.{◌≡◌, ◌∙◌, sym, ap, refl, subst, ℕ, ◌+◌, ◌-◌, ◌≤◌, ◌<◌, ℤ, Bool, true, false, List, [], ◌∷◌, ◌++◌, length, take, map, Option, Some, None, inl, inr, arith}
-use Rattle.std.specs.Prelude.{IsTrue, ◌⊎◌, slice_get, option_map}
+use Rattle.std.proofs.Common.{◌≡◌, ◌∙◌, sym, ap, refl, subst, ℕ, ◌+◌, ◌-◌, ◌≤◌, ◌<◌, ℤ, Bool, true, false, List, [], ◌∷◌, ◌++◌, length, take, map, Option, Some, None, Result, Ok, Err, MatchResult, inl, inr, replicate, ◌≢◌, arith}
+use Rattle.std.specs.Prelude.{IsTrue, IfOk, ◌⊎◌, slice_get, option_map}
+use Rattle.std.proofs.Math.ListN.{length-replicate}
+use Rattle.math_terms.specs.declared.name.NoMemory.{NoMemory}
 use Rattle.math_terms.specs.Laws.{SubstitutionKeepsValues, EqualityIsSameness}
-use Rattle.edge_io.specs.Files.{Files, SameFiles}
+use Rattle.edge_io.specs.Files.{Files, SameFiles, most_bytes}
 use Rattle.edge_io.specs.Held.{Grew, GrewByPrefix}
 use Rattle.res_lexer.specs.declared.token.Token.{Token}
 use Rattle.res_lexer.specs.declared.token.TokenKind.{TokenKind}
 use Rattle.res_lexer.specs.declared.token.LexError.{LexError}
-use Rattle.res_lexer.specs.Tokens.{AreTokens, Refuses}
+use Rattle.res_lexer.specs.declared.token.LexError.TheVariants as lex
+use Rattle.res_lexer.specs.Tokens.{AreTokens, Refuses, RefusesOrNoMemory}
 use Rattle.stack_machine.specs.Machine.{State, after}
 use Rattle.stack_machine.specs.Lines.{lines}
 use Rattle.resolve_cli.specs.declared.module.Form.{Form}
@@ -16,10 +19,10 @@ use Rattle.resolve_cli.specs.declared.status.Status.{Status}
 use Rattle.resolve_cli.specs.declared.status.Status.TheVariants as status
 use Rattle.resolve_cli.specs.Form.{number_of, kinds, IsModule, IsRefusedAt, IsNotYet, Spells, at_of, place_of}
 use Rattle.resolve_cli.specs.Condition.{condition_of, IsProved, IsProvedForm, IsValidCondition, Allows}
-use Rattle.resolve_cli.specs.Texts.{unproved_line}
+use Rattle.resolve_cli.specs.Texts.{unproved_line, lex_line, not_yet_line}
 use Rattle.resolve_cli.specs.Words.{Word, Command, Run, Other, command, read_words, command_of}
 use Rattle.resolve_cli.specs.Answer.{image_of, most_steps, most_component_bytes, Runs, Halts, IsRefusedWith, HasNoTokens, HasNoForm, HasNoProof, TextAnswers, FileAnswers, Answers, IsRight}
-use Rattle.resolve_cli.specs.Resolves.{Got, GotPrefix, Answered, Saw, SawFile, GotText, GotTextPrefix, TextAnswered, ModuleAnswered, FileAnswered, ShortText, RanRight}
+use Rattle.resolve_cli.specs.Resolves.{Got, GotPrefix, Answered, Saw, SawFile, GotText, GotTextPrefix, TextAnswered, ModuleAnswered, FileAnswered, SomeFile, ShortText, RanRight}
 use Rattle.resolve_cli.proofs.Machine.{over, halted_at, never_stuck}
 use Rattle.resolve_cli.proofs.Ran.{Stays}
 use Rattle.resolve_cli.proofs.Sound.{proved_valid, valid_allows}
@@ -31,6 +34,15 @@ pub record Laws : Type 0 where
   pub read_or_refused : (bytes : List ℕ) (ts : List Token) (e : LexError) → AreTokens bytes ts → Refuses bytes e → ⊥
   pub one_form : (ks : List TokenKind) (f g : Form) → IsModule ks f → IsModule ks g → f ≡ g
   pub no_module_refused : (ks : List TokenKind) (f : Form) (k : ℕ) → IsModule ks f → IsRefusedAt ks k → ⊥
+
+pub enough_steps : 129 ≤ most_steps
+unfolding most_steps
+enough_steps = omega arith
+
+-- the shelf's limit is above a component's
+component_below : most_component_bytes ≤ most_bytes
+unfolding most_component_bytes
+component_below = omega arith
 
 nothing_grew : (old new : Option (List ℕ)) (out : List ℕ) → Grew old new [] → GrewByPrefix old new out
 nothing_grew old new out grew = (0, grew)
@@ -53,18 +65,16 @@ module _ (laws : Laws) where
 
   -- the halted machine has written the module's numbers
   halts_with : (m : Module) (bytes : List ℕ) (written : List ℤ) → Spells bytes m → Halts m written → written ≡ map number_of m.form.written
-  unfolding most_steps
   halts_with m bytes written (ts, are, is, end) h =
       let few = is.1.written in
-      let there = halted_at laws.stays m.form.written most_steps few (omega arith) in
+      let there = halted_at laws.stays m.form.written most_steps few enough_steps in
       let same : Some h.state ≡ Some (over (map number_of m.form.written)) = sym h.reached ∙ there in
       let states : h.state ≡ over (map number_of m.form.written) = cc in
       sym h.output ∙ ap (λ s. s.output) states
 
   halts_at_end : (m : Module) (bytes : List ℕ) → Spells bytes m → Halts m (map number_of m.form.written)
-  unfolding most_steps
   halts_at_end m bytes (ts, are, is, end) =
-      record { state = over (map number_of m.form.written); reached = halted_at laws.stays m.form.written most_steps is.1.written (omega arith); over = refl; output = refl }
+      record { state = over (map number_of m.form.written); reached = halted_at laws.stays m.form.written most_steps is.1.written enough_steps; over = refl; output = refl }
 
   -- where a module is proved, its answer is its numbers
   module_only : (name bytes : List ℕ) (m : Module) → Spells bytes m → IsProvedForm m.form → (s : Status) (out : List ℕ) → TextAnswers name bytes s out → out ≡ lines (map number_of m.form.written)
@@ -177,3 +187,81 @@ pub ran_right : Laws → SubstitutionKeepsValues → EqualityIsSameness → (wor
 ran_right laws keeps sameness words tells shelf files old new saw (out, (name, bytes, runs, answers), grew) =
     let right = right_text laws keeps sameness name bytes out answers in
     record { name = name; bytes = bytes; written = right.0; says = runs.says; held = (λ t. sym (saw t name) ∙ runs.holds); right = right.1; grew = subst (λ bs. Grew old new bs) right.2 grew }
+
+-- what is left of a line, or of a name, that may have run out of memory
+abbrev pub AsRefused : Result (List ℕ) NoMemory → Status → Type 0
+AsRefused line s = MatchResult line (λ l. s ≡ status.Refused l) (λ _. s ≡ status.NoMemory)
+
+pub refused_module : (line : Result (List ℕ) NoMemory) (s : Status) (m : Module) (old new : Option (List ℕ)) → AsRefused line s → IfOk line (λ l. l ≡ unproved_line m.form.name m.end_at) → (IsProvedForm m.form → ⊥) → Grew old new [] → ModuleAnswered m s old new
+refused_module (Ok l) s m old new is text open_ grew = subst (λ t. ModuleAnswered m t old new) (sym is) (open_, text, grew)
+refused_module (Err e) s m old new is text open_ grew = subst (λ t. ModuleAnswered m t old new) (sym is) (inl grew)
+
+pub memory_text : (name bytes : List ℕ) (old new : Option (List ℕ)) → Grew old new [] → TextAnswered name bytes status.NoMemory old new
+memory_text name bytes old new grew = λ s out answers. nothing_grew old new out grew
+
+pub refused_text : (line : Result (List ℕ) NoMemory) (s : Status) (name bytes : List ℕ) (old new : Option (List ℕ)) → AsRefused line s → IfOk line (λ l. IsRefusedWith name bytes l) → Grew old new [] → TextAnswered name bytes s old new
+refused_text (Ok l) s name bytes old new is text grew = subst (λ t. TextAnswered name bytes t old new) (sym is) ([], (text, refl), grew)
+refused_text (Err e) s name bytes old new is text grew = subst (λ t. TextAnswered name bytes t old new) (sym is) (memory_text name bytes old new grew)
+
+pub not_yet_text : (line : Result (List ℕ) NoMemory) (name bytes : List ℕ) (ts : List Token) (k at : ℕ) → AreTokens bytes ts → IsRefusedAt (kinds ts) k → at ≡ place_of ts (length bytes) k → IfOk line (λ l. l ≡ not_yet_line name at) → IfOk line (λ l. IsRefusedWith name bytes l)
+not_yet_text (Ok l) name bytes ts k at are refused place is = inr (inl (at, (ts, k, are, refused, place), is))
+not_yet_text (Err e) name bytes ts k at are refused place is = tt
+
+refuses_lex : (bytes : List ℕ) (e : LexError) → (e ≢ lex.NoMemory) → RefusesOrNoMemory bytes e → Refuses bytes e
+refuses_lex bytes (lex.BadByte at) not h = h
+refuses_lex bytes (lex.OpenComment at) not h = h
+refuses_lex bytes (lex.LongName at) not h = h
+refuses_lex bytes (lex.BigLiteral at) not h = h
+refuses_lex bytes lex.NoMemory not h = absurd (not refl)
+
+pub lex_text : (line : Result (List ℕ) NoMemory) (name bytes : List ℕ) (e : LexError) → (e ≢ lex.NoMemory) → RefusesOrNoMemory bytes e → IfOk line (λ l. l ≡ lex_line name e) → IfOk line (λ l. IsRefusedWith name bytes l)
+lex_text (Ok l) name bytes e not refused is = inl (e, refuses_lex bytes e not refused, is)
+lex_text (Err x) name bytes e not refused is = tt
+
+-- a text that is short enough, as a file
+pub file_of_text : (name bytes : List ℕ) (s : Status) (old new : Option (List ℕ)) → length bytes ≤ most_component_bytes → TextAnswered name bytes s old new → FileAnswered name (Some bytes) s old new
+file_of_text name bytes status.Done old new short h = (bytes, (refl, short), h)
+file_of_text name bytes (status.Refused line) old new short h = (bytes, (refl, short), h)
+file_of_text name bytes status.SinkFault old new short h = (bytes, (refl, short), h)
+file_of_text name bytes status.NoMemory old new short h = inr (bytes, (refl, short), h)
+file_of_text name bytes status.ShelfFault old new short h = absurd h
+file_of_text name bytes status.BadWords old new short h = absurd h
+file_of_text name bytes (status.NotFound n) old new short h = absurd h
+file_of_text name bytes (status.FileTooLong n) old new short h = absurd h
+file_of_text name bytes status.NotBuilt old new short h = absurd h
+
+abbrev pub AsTooLong : Result (List ℕ) NoMemory → Status → Type 0
+AsTooLong line s = MatchResult line (λ l. s ≡ status.FileTooLong l) (λ _. s ≡ status.NoMemory)
+
+abbrev pub AsNotFound : Result (List ℕ) NoMemory → Status → Type 0
+AsNotFound line s = MatchResult line (λ l. s ≡ status.NotFound l) (λ _. s ≡ status.NoMemory)
+
+pub long_file : (line : Result (List ℕ) NoMemory) (s : Status) (name bytes : List ℕ) (old new : Option (List ℕ)) → AsTooLong line s → IfOk line (λ l. l ≡ name) → most_component_bytes < length bytes → Grew old new [] → FileAnswered name (Some bytes) s old new
+long_file (Ok l) s name bytes old new is same long grew = subst (λ t. FileAnswered name (Some bytes) t old new) (sym is) (same, bytes, refl, long, grew)
+long_file (Err e) s name bytes old new is same long grew = subst (λ t. FileAnswered name (Some bytes) t old new) (sym is) (inl grew)
+
+pub missing_file : (line : Result (List ℕ) NoMemory) (s : Status) (name : List ℕ) (old new : Option (List ℕ)) → AsNotFound line s → IfOk line (λ l. l ≡ name) → Grew old new [] → FileAnswered name None s old new
+missing_file (Ok l) s name old new is same grew = subst (λ t. FileAnswered name None t old new) (sym is) (same, refl, grew)
+missing_file (Err e) s name old new is same grew = subst (λ t. FileAnswered name None t old new) (sym is) (inl grew)
+
+-- a file that is too long for the shelf
+pub longer_file : (tells : Bool) (shelf : Files) (name : List ℕ) (line : Result (List ℕ) NoMemory) (s : Status) (old new : Option (List ℕ)) → (IsTrue tells → (held : List ℕ) × (shelf name ≡ Some held) × (most_bytes < length held)) → AsTooLong line s → IfOk line (λ l. l ≡ name) → Grew old new [] → SomeFile tells shelf name s old new
+longer_file true shelf name line s old new long is same grew =
+    let h = long refl in
+    (Some h.0, (λ t. h.1), long_file line s name h.0 old new is same (omega (arith, h.2, component_below)) grew)
+longer_file false shelf name line s old new long is same grew =
+    (Some (replicate (most_component_bytes + 1) 0), (λ t. absurd (cc)), long_file line s name (replicate (most_component_bytes + 1) 0) old new is same (omega (arith, length-replicate {A = ℕ} (most_component_bytes + 1) 0)) grew)
+
+pub answered_words : (words : List Word) (tells : Bool) (shelf : Files) (name : List ℕ) (s : Status) (old new : Option (List ℕ)) → command words ≡ Some (Run name) → SomeFile tells shelf name s old new → (files : Files) × Saw tells shelf files × Answered words files s old new
+answered_words words tells shelf name s old new says (file, saw, h) =
+    let f = seen tells shelf name file saw in
+    (f.0, f.1, answered words f.0 name file s old new says f.2 h)
+
+pub no_shelf_text : (s : Status) (name bytes : List ℕ) (old new : Option (List ℕ)) → TextAnswered name bytes s old new → s ≡ status.ShelfFault → ⊥
+no_shelf_text s name bytes old new h e = subst (λ t. TextAnswered name bytes t old new) e h
+
+pub answered_none : (words : List Word) (tells : Bool) (shelf : Files) (old new : Option (List ℕ)) → read_words words ≡ None → Grew old new [] → (files : Files) × Saw tells shelf files × Answered words files status.BadWords old new
+answered_none words tells shelf old new none grew = (shelf, (λ t n. refl), ([], (none, refl), grew))
+
+pub answered_other : (words : List Word) (tells : Bool) (shelf : Files) (old new : Option (List ℕ)) → command words ≡ Some Other → Grew old new [] → (files : Files) × Saw tells shelf files × Answered words files status.NotBuilt old new
+answered_other words tells shelf old new other grew = (shelf, (λ t n. refl), ([], (other, refl), grew))

@@ -48,7 +48,7 @@ image_of f = record {
 unfoldable pub most_steps : ℕ
 most_steps = 100000000
 
-abbrev pub most_component_bytes : ℕ
+unfoldable pub most_component_bytes : ℕ
 most_component_bytes = 1048576
 
 -- The command runs a file, and these are its bytes, which are not too many.

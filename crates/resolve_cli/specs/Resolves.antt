@@ -88,6 +88,10 @@ FileAnswered name file status.NotBuilt old new = ⊥
 abbrev pub SawFile : Bool → Files → List ℕ → Option (List ℕ) → Type 0
 SawFile tells shelf name file = IsTrue tells → shelf name ≡ file
 
+-- Some file that is what a shelf has, where it tells, answers so.
+abbrev pub SomeFile : Bool → Files → List ℕ → Status → Option (List ℕ) → Option (List ℕ) → Type 0
+SomeFile tells shelf name s old new = (file : Option (List ℕ)) × SawFile tells shelf name file × FileAnswered name file s old new
+
 -- what a run of a module's image leaves on out
 abbrev pub ModuleRan : Form → Status → Option (List ℕ) → Option (List ℕ) → Type 0
 ModuleRan f status.Done old new = Grew old new (lines (map number_of f.written))

@@ -15,3 +15,4 @@ mod top;
 pub mod words;
 
 pub use status::Status;
+pub use top::resolve;
