@@ -1,5 +1,5 @@
 -- Evaluation: what each function of terms does to plain values.
-use Rattle.std.proofs.Common.{◌≡◌, ◌∙◌, sym, ap, refl, subst, ℕ, zero, suc, ◌+◌, ◌-◌, ◌^◌, ◌≤◌, min, ℤ, pos, negsuc, int_le, Bool, true, false, ◌&&◌, List, [], ◌∷◌, ◌++◌, reverse, ◌↔◌, map, take, drop, length, FitsSigned, Option, Some, None, Result, Ok, Err, slice_get, slice_index_or, arith}
+use Rattle.std.proofs.Common.{◌≡◌, ◌∙◌, sym, ap, refl, subst, ℕ, zero, suc, ◌+◌, ◌-◌, min, ℤ, pos, negsuc, Bool, true, false, ◌&&◌, List, [], ◌∷◌, ◌++◌, reverse, ◌↔◌, map, take, drop, length, FitsSigned, Option, Some, None, Result, Ok, slice_get, slice_index_or, arith}
 use Rattle.std.proofs.lemmas.Bool.{and_parts, and_from, and_right, le-leb, leb-true}
 use Rattle.std.proofs.lemmas.List.{drop-take, take_min, drop_min, length-take, take-map, drop-map, map-append, reverse-append}
 use Rattle.std.specs.Int.{w128}
@@ -10,11 +10,11 @@ use Rattle.math_terms.specs.declared.name.NoMemory.{NoMemory}
 use Rattle.math_terms.specs.declared.term.Term.{Term}
 use Rattle.math_terms.specs.declared.term.Term.TheOpen.{Term-F}
 use Rattle.math_terms.specs.declared.term.Term.TheViews.{roll-Term}
-use Rattle.math_terms.specs.declared.term.Term.TheFolds.{map-Term, fold-Term, fold-roll-Term}
+use Rattle.math_terms.specs.declared.term.Term.TheFolds.{map-Term, fold-roll-Term}
 use Rattle.math_terms.specs.declared.value.Value.{Value}
 use Rattle.math_terms.specs.declared.value.Value.TheOpen.{Value-F}
 use Rattle.math_terms.specs.declared.value.Value.TheVariants.{Num as CodeNum, Truth as CodeTruth, Str, Tup, rolls-Num, rolls-Truth, rolls-Str, rolls-Tup}
-use Rattle.math_terms.specs.declared.value.Value.TheFolds.{fold-Value, fold-roll-Value}
+use Rattle.math_terms.specs.declared.value.Value.TheFolds.{fold-roll-Value}
 use Rattle.math_terms.specs.Values.{Val, Num, Truth, denotes, denotes_step, string, tuple, number, entries, parts, place, between, projected}
 use Rattle.math_terms.proofs.Sameness.{list_of-vals_of, same_from_code}
 use Rattle.math_terms.specs.Meaning.{value_step}

@@ -1,13 +1,13 @@
 -- Equality of values is sameness, and a value of the code is told by what it stands for.
-use Rattle.std.proofs.Common.{◌≡◌, ◌∙◌, sym, ap, refl, subst, ℤ, Bool, true, false, ◌&&◌, List, [], ◌∷◌, map, ◌↔◌}
+use Rattle.std.proofs.Common.{◌≡◌, ◌∙◌, sym, ap, refl, subst, Bool, true, false, List, [], ◌∷◌, map, ◌↔◌}
 use Rattle.std.proofs.lemmas.Bool.{and_parts, and_from}
 use Rattle.std.proofs.lemmas.Bool.Decides.{Decides-int_eq}
 use Rattle.std.specs.Bool.{one_answer}
 use Rattle.math_terms.specs.declared.value.Value.{Value}
 use Rattle.math_terms.specs.declared.value.Value.TheOpen.{Value-F}
 use Rattle.math_terms.specs.declared.value.Value.TheViews.{roll-Value}
-use Rattle.math_terms.specs.declared.value.Value.TheFolds.{map-Value, fold-Value, fold-roll-Value, ind-Value}
-use Rattle.math_terms.specs.Values.{Val, Num, Truth, Str, Tup, Vals, none, more, vals_of, list_of, string, tuple, same, same_all, denotes, denotes_step}
+use Rattle.math_terms.specs.declared.value.Value.TheFolds.{map-Value, fold-roll-Value, ind-Value}
+use Rattle.math_terms.specs.Values.{Val, Num, Truth, Str, Tup, Vals, none, more, vals_of, list_of, same, same_all, denotes, denotes_step}
 
 -- lists of values, and the same lists as values have them
 pub list_of-vals_of : (vs : List Val) → list_of (vals_of vs) ≡ vs
