@@ -1,12 +1,11 @@
 -- Plain terms have one value, whatever is initial and whatever the variables are.
-use Rattle.std.proofs.Common.{◌≡◌, ◌∙◌, sym, ap, refl, subst, ℕ, Bool, true, false, ◌&&◌, List, [], ◌∷◌, map}
+use Rattle.std.proofs.Common.{◌≡◌, ◌∙◌, sym, ap, refl, subst, ℕ, Bool, true, ◌&&◌, List, [], ◌∷◌, map}
 use Rattle.std.proofs.lemmas.Bool.{and_parts, false≢true}
 use Rattle.std.specs.List.{list_all}
 use Rattle.math_terms.specs.declared.term.Term.{Term}
 use Rattle.math_terms.specs.declared.term.Term.TheOpen.{Term-F}
-use Rattle.math_terms.specs.declared.term.Term.TheViews.{roll-Term}
-use Rattle.math_terms.specs.declared.term.Term.TheFolds.{map-Term, fold-Term, fold-roll-Term, ind-Term}
-use Rattle.math_terms.specs.Values.{Val, truth}
+use Rattle.math_terms.specs.declared.term.Term.TheFolds.{map-Term, fold-roll-Term, ind-Term}
+use Rattle.math_terms.specs.Values.{Val}
 use Rattle.math_terms.specs.Terms.{every_child}
 use Rattle.math_terms.specs.Meaning.{Valuation, value_step, value_where}
 use Rattle.math_terms.specs.Descriptors.{nothing, zeros}

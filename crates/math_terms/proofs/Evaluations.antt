@@ -1,8 +1,7 @@
 -- Evaluation: what each function of terms does to plain values.
-use Rattle.std.proofs.Common.{◌≡◌, ◌∙◌, sym, ap, refl, subst, ℕ, zero, suc, ◌+◌, ◌-◌, ◌^◌, ◌≤◌, min, ℤ, pos, negsuc, int_le, Bool, true, false, ◌&&◌, List, [], ◌∷◌, ◌++◌, reverse, ◌↔◌, map, take, drop, length, FitsSigned, Option, Some, None, Result, Ok, Err, slice_get, slice_index_or, arith}
-use Rattle.std.proofs.lemmas.Bool.{and_parts, and_from, and_right, le-leb, leb-true}
+use Rattle.std.proofs.Common.{◌≡◌, ◌∙◌, sym, ap, refl, subst, ℕ, zero, suc, ◌+◌, ◌-◌, min, ℤ, pos, Bool, true, false, ◌&&◌, List, [], ◌∷◌, ◌++◌, reverse, ◌↔◌, map, take, drop, length, Option, Some, None, Result, Ok, slice_get, slice_index_or, arith}
+use Rattle.std.proofs.lemmas.Bool.{and_right}
 use Rattle.std.proofs.lemmas.List.{drop-take, take_min, drop_min, length-take, take-map, drop-map, map-append, reverse-append}
-use Rattle.std.specs.Int.{w128}
 use Rattle.std.specs.List.{list_all}
 use Rattle.math_terms.specs.declared.evaluation.Binary.{Binary}
 use Rattle.math_terms.specs.declared.evaluation.Unary.{Unary}
@@ -10,11 +9,11 @@ use Rattle.math_terms.specs.declared.name.NoMemory.{NoMemory}
 use Rattle.math_terms.specs.declared.term.Term.{Term}
 use Rattle.math_terms.specs.declared.term.Term.TheOpen.{Term-F}
 use Rattle.math_terms.specs.declared.term.Term.TheViews.{roll-Term}
-use Rattle.math_terms.specs.declared.term.Term.TheFolds.{map-Term, fold-Term, fold-roll-Term}
+use Rattle.math_terms.specs.declared.term.Term.TheFolds.{map-Term, fold-roll-Term}
 use Rattle.math_terms.specs.declared.value.Value.{Value}
 use Rattle.math_terms.specs.declared.value.Value.TheOpen.{Value-F}
 use Rattle.math_terms.specs.declared.value.Value.TheVariants.{Num as CodeNum, Truth as CodeTruth, Str, Tup, rolls-Num, rolls-Truth, rolls-Str, rolls-Tup}
-use Rattle.math_terms.specs.declared.value.Value.TheFolds.{fold-Value, fold-roll-Value}
+use Rattle.math_terms.specs.declared.value.Value.TheFolds.{fold-roll-Value}
 use Rattle.math_terms.specs.Values.{Val, Num, Truth, denotes, denotes_step, string, tuple, number, entries, parts, place, between, projected}
 use Rattle.math_terms.proofs.Sameness.{list_of-vals_of, same_from_code}
 use Rattle.math_terms.specs.Meaning.{value_step}
@@ -31,16 +30,6 @@ between_is m n s e xs at_end at_start =
     ∙ ap (drop s) (take_min n xs)
     ∙ ap (λ k. drop k (take n xs)) (at_start ∙ ap (min m) (at_end ∙ sym (length-take n xs)))
     ∙ drop_min m (take n xs)
-
--- a number fits 128 bits exactly where it is narrow
-pub narrow_from_fits : (z : ℤ) → FitsSigned w128 z → is_narrow (Num z) ≡ true
-narrow_from_fits (pos n) h = le-leb n 170141183460469231731687303715884105727 (omega arith)
-narrow_from_fits (negsuc n) h = and_from _ _ (le-leb n 170141183460469231731687303715884105727 (omega arith)) refl
-
-pub fits_from_narrow : (z : ℤ) → is_narrow (Num z) ≡ true → FitsSigned w128 z
-fits_from_narrow (pos n) h = record { sfits = omega (arith, leb-true n 170141183460469231731687303715884105727 h) }
-fits_from_narrow (negsuc n) h =
-    record { sfits = omega (arith, leb-true n 170141183460469231731687303715884105727 (and_parts _ _ h).0) }
 
 -- what the values of the code stand for
 pub denotes_number : (n : ℤ) → denotes (CodeNum n) ≡ Num n

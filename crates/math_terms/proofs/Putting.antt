@@ -1,9 +1,9 @@
 -- Substitution: the value and the size of what it makes.
-use Rattle.std.proofs.Common.{◌≡◌, ◌∙◌, sym, ap, refl, ℕ, ◌+◌, ◌==◌, Bool, true, false, List, [], ◌∷◌, map, sum, if◌then◌else◌}
+use Rattle.std.proofs.Common.{◌≡◌, refl, ℕ, ◌==◌, Bool, true, false, if◌then◌else◌}
 use Rattle.math_terms.specs.declared.term.Term.{Term}
 use Rattle.math_terms.specs.declared.term.Term.TheOpen.{Term-F}
 use Rattle.math_terms.specs.declared.term.Term.TheViews.{roll-Term}
-use Rattle.math_terms.specs.declared.term.Term.TheFolds.{map-Term, fold-Term, fold-roll-Term}
+use Rattle.math_terms.specs.declared.term.Term.TheFolds.{map-Term, fold-roll-Term}
 use Rattle.math_terms.specs.Values.{Val}
 use Rattle.math_terms.specs.Terms.{nodes, nodes_step, nodes_with, nodes_with_step, put, put_step}
 use Rattle.math_terms.specs.Meaning.{Valuation, set_to, value_step, value_where}

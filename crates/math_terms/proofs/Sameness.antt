@@ -1,13 +1,14 @@
 -- Equality of values is sameness, and a value of the code is told by what it stands for.
-use Rattle.std.proofs.Common.{◌≡◌, ◌∙◌, sym, ap, refl, subst, ℤ, Bool, true, false, ◌&&◌, List, [], ◌∷◌, map, ◌↔◌}
+use Rattle.std.proofs.Common.{◌≡◌, ◌∙◌, sym, ap, refl, subst, Bool, true, false, List, [], ◌∷◌, map, ◌↔◌}
 use Rattle.std.proofs.lemmas.Bool.{and_parts, and_from}
 use Rattle.std.proofs.lemmas.Bool.Decides.{Decides-int_eq}
 use Rattle.std.specs.Bool.{one_answer}
 use Rattle.math_terms.specs.declared.value.Value.{Value}
 use Rattle.math_terms.specs.declared.value.Value.TheOpen.{Value-F}
 use Rattle.math_terms.specs.declared.value.Value.TheViews.{roll-Value}
-use Rattle.math_terms.specs.declared.value.Value.TheFolds.{map-Value, fold-Value, fold-roll-Value, ind-Value}
-use Rattle.math_terms.specs.Values.{Val, Num, Truth, Str, Tup, Vals, none, more, vals_of, list_of, string, tuple, same, same_all, denotes, denotes_step}
+use Rattle.math_terms.specs.declared.value.Value.TheFolds.{map-Value, fold-roll-Value, ind-Value}
+use Rattle.math_terms.specs.Values.{Val, Num, Truth, Str, Tup, Vals, none, more, vals_of, list_of, same, same_all, denotes, denotes_step}
+use Rattle.math_terms.proofs.Folds.{list_map-map}
 
 -- lists of values, and the same lists as values have them
 pub list_of-vals_of : (vs : List Val) → list_of (vals_of vs) ≡ vs
@@ -69,14 +70,6 @@ mutual
 -- the test of equality tells whether two values are the same
 pub same_decides : (u v : Val) → (same u v ≡ true) ↔ (u ≡ v)
 same_decides u v = (is_from_same u v, λ e. subst (λ w. same u w ≡ true) e (same_itself u))
-
-list_map-map : {X Y Z : Type 0} (f : X → Y) (g : Y → Z) (xs : List X) → map g (map f xs) ≡ map (λ x. g (f x)) xs
-list_map-map f g [] = refl
-list_map-map f g (x ∷ xs) = ap (λ ys. g (f x) ∷ ys) (list_map-map f g xs)
-
-list_map-id : {X : Type 0} (xs : List X) → map (λ x. x) xs ≡ xs
-list_map-id [] = refl
-list_map-id (x ∷ xs) = ap (λ ys. x ∷ ys) (list_map-id xs)
 
 map-map : {X Y Z : Type 0} (f : X → Y) (g : Y → Z) (x : Value-F X) → map-Value Y Z g (map-Value X Y f x) ≡ map-Value X Z (λ a. g (f a)) x
 map-map f g (Value-F.Num n) = refl

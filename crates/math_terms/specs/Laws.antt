@@ -1,5 +1,5 @@
 -- Laws of the definitions, each proved as the contract of a function of its own.
-use Rattle.std.specs.Prelude.{◌≡◌, ℕ, ◌↔◌, Bool, true}
+use Rattle.std.specs.Prelude.{◌≡◌, ℕ, ◌↔◌, true}
 use Rattle.math_terms.specs.declared.term.Term.{Term}
 use Rattle.math_terms.specs.Values.{Val, same}
 use Rattle.math_terms.specs.Terms.{put}

@@ -1,9 +1,8 @@
 -- The value of a term, case by case over the function set. It is total.
-use Rattle.std.specs.Prelude.{◌≡◌, ℕ, ℤ, pos, negsuc, ◌+ℤ◌, ◌-ℤ◌, ◌*ℤ◌, int_lt, int_le, Bool, true, false, not, ◌&&◌, ◌||◌, List, [], ◌∷◌, ◌++◌, length, reverse, ◌==◌, if◌then◌else◌, IsTrue}
+use Rattle.std.specs.Prelude.{ℕ, pos, negsuc, ◌+ℤ◌, ◌-ℤ◌, ◌*ℤ◌, int_lt, int_le, Bool, not, ◌&&◌, ◌||◌, [], ◌∷◌, ◌++◌, length, reverse, ◌==◌, if◌then◌else◌}
 use Rattle.math_terms.specs.declared.term.Term.{Term}
 use Rattle.math_terms.specs.declared.term.Term.TheOpen.{Term-F}
 use Rattle.math_terms.specs.declared.term.Term.TheFolds.{fold-Term}
-use Rattle.math_terms.specs.declared.descriptor.Desc.{Desc}
 use Rattle.math_terms.specs.Values.{Val, Num, Truth, string, tuple, number, truth, entries, same, quotient, remainder, between, projected}
 
 -- a value for each variable

@@ -1,5 +1,5 @@
 -- What can be computed: closed terms, all numbers of which fit 128 bits.
-use Rattle.std.specs.Prelude.{ℕ, ℤ, pos, negsuc, int_le, Bool, true, false, ◌&&◌, List, [], ◌∷◌}
+use Rattle.std.specs.Prelude.{pos, negsuc, int_le, Bool, true, false, ◌&&◌}
 use Rattle.math_terms.specs.declared.term.Term.{Term}
 use Rattle.math_terms.specs.declared.term.Term.TheOpen.{Term-F}
 use Rattle.math_terms.specs.declared.term.Term.TheFolds.{fold-Term, map-Term}

@@ -1,5 +1,5 @@
 -- Terms as trees: their size, and substitution.
-use Rattle.std.specs.Prelude.{ℕ, ◌+◌, ◌==◌, ◌<◌, min, Bool, true, ◌&&◌, List, [], ◌∷◌, sum, if◌then◌else◌}
+use Rattle.std.specs.Prelude.{ℕ, ◌+◌, ◌==◌, ◌<◌, min, Bool, true, ◌&&◌, sum, if◌then◌else◌}
 use Rattle.std.specs.List.{list_all}
 use Rattle.math_terms.specs.declared.name.TermError.{TermError}
 use Rattle.math_terms.specs.declared.name.TermError.TheVariants.{TooLarge, SortClash, NoMemory}

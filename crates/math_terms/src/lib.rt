@@ -9,6 +9,8 @@ mod nodes;
 mod operations;
 mod substitution;
 mod term;
+#[cfg(test)]
+mod tests;
 mod value;
 
 pub use descriptor::{Desc, Shape, Sort, copy_descs, copy_sorts};

@@ -6,8 +6,8 @@ ghost use Rattle.math_terms.specs.Terms.{nodes, count_up_to};
 use crate::term::Term;
 
 impl Term {
+    /// How many nodes the term has, or `most + 1` where it has more than `most`. This takes no memory.
     #[tactic(auto, using(crate::proofs::Counting::count_up_to_nodes))]
-    /// How many nodes the term has, at most `most + 1`: counting stops there. This takes no memory.
     pub fn nodes_up_to(&self, most: u32) -> u32
         requires { most < 2 ^ 32 - 1 }
         ensures { result ≡ min (nodes self.now) (most + 1) }

@@ -14,9 +14,9 @@ use std::alloc::Global;
 /// The most nodes that the result of a substitution may have.
 const MOST_NODES: u32 = 10_000;
 
-#[tactic(auto, using(crate::proofs::Counting::count_up_to_put))]
 /// The term with `by` in place of each `Var(v)`. `TooLarge` says that it would have over 10,000 nodes;
 /// that is found before any memory is taken.
+#[tactic(auto, using(crate::proofs::Counting::count_up_to_put))]
 pub fn substitute(alloc: Global, t: &Term, v: u32, by: &Term) -> Result<Term, TermError>
     ensures exact { IfOk result (λ r. r ≡ put v by.now t.now) }
     ensures value { IfOk result (λ r. (I : Interpretation) (w : Valuation) → value I w r ≡ value I (set_to v (value I w by.now) w) t.now) }

@@ -1,4 +1,4 @@
-use Rattle.std.proofs.Common.{◌≡◌, ◌∙◌, sym, ap, subst, Option, Ok}
+use Rattle.std.proofs.Common.{◌∙◌, sym, ap, subst, Option, Ok}
 use Rattle.math_terms.specs.declared.value.Value.{Value}
 use Rattle.math_terms.specs.Values.{truth}
 use Rattle.math_terms.specs.Descriptors.{starts_in}
