@@ -1,2 +1,4 @@
 pub mod Going
 pub mod Telling
+pub mod Expressions
+pub mod Statements
