@@ -2,3 +2,4 @@ pub mod Going
 pub mod Telling
 pub mod Expressions
 pub mod Statements
+pub mod Simulated
