@@ -1,7 +1,7 @@
 //! From a linked program to its code.
 
-ghost use Rattle.std.specs.Prelude.{◌≤◌, [], ◌∷◌, length};
-ghost use Rattle.stack_machine.specs.Code.{body_code, choice_code, expr_code, op_code, stmt_code, when_code};
+ghost use Rattle.std.specs.Prelude.{◌≡◌, ◌<◌, ◌≤◌, ◌+◌, [], ◌∷◌, ◌++◌, IfOk, length, slice_set};
+ghost use Rattle.stack_machine.specs.Code.{body_code, expr_code, op_code, stmt_code};
 ghost use Rattle.stack_machine.specs.Refusal.{Emitted, most_instructions};
 ghost use Rattle.stack_machine.specs.declared.image.Instr.{Instr};
 
@@ -82,6 +82,54 @@ fn emit_expression(code: &mut Vec<Instr>, expression: &LExpr) -> Result<(), Code
     }
 }
 
+// The instructions of an expression, and one that takes its value.
+fn emit_use(code: &mut Vec<Instr>, expression: &LExpr, instr: Instr) -> Result<(), CodeError>
+    requires { length code.old.items ≤ most_instructions }
+    ensures { Emitted code.old.items code.new.items (expr_code expression.now ++ instr ∷ []) result }
+{
+    emit_expression(code, expression)?;
+    put(code, instr)
+}
+
+// The guard of a choice, and the jump past its then part, whose target is not known yet. Answers the jump's address.
+fn emit_guard(code: &mut Vec<Instr>, guard: &LExpr) -> Result<usize, CodeError>
+    requires { length code.old.items ≤ most_instructions }
+    ensures emitted { Emitted code.old.items code.new.items (expr_code guard.now ++ Instr.JumpFalse 0 ∷ []) result }
+    ensures place { IfOk result (λ place. place + 1 ≡ length code.new.items) }
+{
+    emit_use(code, guard, Instr::JumpFalse(0))?;
+    Ok(code.len() - 1)
+}
+
+// The jump from the end of a then part, whose target is not known yet. Answers its address.
+fn emit_turn(code: &mut Vec<Instr>) -> Result<usize, CodeError>
+    requires { length code.old.items ≤ most_instructions }
+    ensures emitted { Emitted code.old.items code.new.items (Instr.Jump 0 ∷ []) result }
+    ensures place { IfOk result (λ place. place ≡ length code.old.items) }
+{
+    let place = code.len();
+    put(code, Instr::Jump(0))?;
+    Ok(place)
+}
+
+// Writes a jump whose target is the end of the code.
+fn aim_false(code: &mut Vec<Instr>, place: usize)
+    requires within { place < length code.old.items }
+    requires few { length code.old.items ≤ most_instructions }
+    ensures { code.new.items ≡ slice_set code.old.items place (Instr.JumpFalse (length code.old.items)) }
+{
+    code[place] = Instr::JumpFalse(code.len() as u32);
+}
+
+// The same for a jump that is always taken.
+fn aim(code: &mut Vec<Instr>, place: usize)
+    requires within { place < length code.old.items }
+    requires few { length code.old.items ≤ most_instructions }
+    ensures { code.new.items ≡ slice_set code.old.items place (Instr.Jump (length code.old.items)) }
+{
+    code[place] = Instr::Jump(code.len() as u32);
+}
+
 // The instructions of a statement.
 #[cycle(emit)]
 fn emit_statement(code: &mut Vec<Instr>, statement: &LStmt) -> Result<(), CodeError>
@@ -89,55 +137,23 @@ fn emit_statement(code: &mut Vec<Instr>, statement: &LStmt) -> Result<(), CodeEr
     ensures { Emitted code.old.items code.new.items (stmt_code statement.now (length code.old.items)) result }
 {
     match statement {
-        LStmt::LSet(spot, value) => {
-            emit_expression(code, value)?;
-            put(code, Instr::Store(*spot))
-        }
+        LStmt::LSet(spot, value) => emit_use(code, value, Instr::Store(*spot)),
         LStmt::LRead(spot) => put(code, Instr::ReadIn(*spot)),
-        LStmt::LWrite(value) => {
-            emit_expression(code, value)?;
-            put(code, Instr::WriteOut)
-        }
+        LStmt::LWrite(value) => emit_use(code, value, Instr::WriteOut),
         LStmt::LIf(guard, first, second) => {
+            let guard_end = emit_guard(code, guard)?;
+            emit_statements(code, first)?;
             if second.is_empty() {
-                emit_when(code, guard, first)
-            } else {
-                emit_choice(code, guard, first, second)
+                aim_false(code, guard_end);
+                return Ok(());
             }
+            let first_end = emit_turn(code)?;
+            aim_false(code, guard_end);
+            emit_statements(code, second)?;
+            aim(code, first_end);
+            Ok(())
         }
     }
-}
-
-// A choice without an else part. The jump past the then part is written once its target is known.
-#[cycle(emit)]
-fn emit_when(code: &mut Vec<Instr>, guard: &LExpr, body: &Items<LStmt>) -> Result<(), CodeError>
-    requires { length code.old.items ≤ most_instructions }
-    ensures { Emitted code.old.items code.new.items (when_code (expr_code guard.now) (body_code body.now) (length code.old.items)) result }
-{
-    emit_expression(code, guard)?;
-    let guard_end = code.len();
-    put(code, Instr::JumpFalse(0))?;
-    emit_statements(code, body)?;
-    code[guard_end] = Instr::JumpFalse(code.len() as u32);
-    Ok(())
-}
-
-// A choice with an else part.
-#[cycle(emit)]
-fn emit_choice(code: &mut Vec<Instr>, guard: &LExpr, first: &Items<LStmt>, second: &Items<LStmt>) -> Result<(), CodeError>
-    requires { length code.old.items ≤ most_instructions }
-    ensures { Emitted code.old.items code.new.items (choice_code (expr_code guard.now) (body_code first.now) (body_code second.now) (length code.old.items)) result }
-{
-    emit_expression(code, guard)?;
-    let guard_end = code.len();
-    put(code, Instr::JumpFalse(0))?;
-    emit_statements(code, first)?;
-    let first_end = code.len();
-    put(code, Instr::Jump(0))?;
-    code[guard_end] = Instr::JumpFalse(code.len() as u32);
-    emit_statements(code, second)?;
-    code[first_end] = Instr::Jump(code.len() as u32);
-    Ok(())
 }
 
 // Statements one after another.
