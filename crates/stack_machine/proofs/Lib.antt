@@ -3,3 +3,4 @@ pub mod Telling
 pub mod Expressions
 pub mod Statements
 pub mod Simulated
+pub mod Patch

@@ -28,6 +28,7 @@ use Rattle.stack_machine.specs.Running.{cell_of_scalar}
 use Rattle.stack_machine.specs.Simulation.{IsFront, NeverWrong, Simulates}
 use Rattle.stack_machine.proofs.Going.{go, after_go, halted_stays_lem, after_front}
 use Rattle.stack_machine.proofs.Expressions.{HasAt, has_front, has_back, Fit, cells, stands, frame, one, then_one, then_more}
+use Rattle.stack_machine.proofs.Patch.{length-init_code}
 use Rattle.stack_machine.proofs.Statements.{at, Comes, Spends, Runs, body_runs}
 
 has_all : (is pre : List Instr) → HasAt (pre ++ is) (length pre) is
@@ -39,10 +40,6 @@ has_all (i ∷ is) pre =
     let rest = has_all is (pre ++ i ∷ []) in
     let rest' = subst (λ l. HasAt l (length (pre ++ i ∷ [])) is) (append_assoc pre (i ∷ []) is) rest in
     (here, subst (λ m. HasAt (pre ++ i ∷ is) m is) n rest')
-
-length-init_code : (k : ℕ) (ts : List ℕ) → length (init_code k ts) ≡ length ts
-length-init_code k [] = refl
-length-init_code k (t ∷ ts) = ap suc (length-init_code (suc k) ts)
 
 list_all-map : {A : Type 0} (f : A → Bool) (xs : List A) → list_all (λ b. b) (map f xs) ≡ list_all f xs
 list_all-map f [] = refl
@@ -215,3 +212,11 @@ simulates_lem l p formed input = record {
   halts = λ fuel t e. (let P : End × Store → Type 0 = λ x. Follows (code_of l p) input fuel x in subst P e (follows l p input fuel formed));
   halts_only = λ never n s h over. only_from l p input n (suc n) s (run_of l p input (suc n)) (omega arith) refl (follows l p input (suc n) formed) (never (suc n)) h over;
 }
+
+-- the same of an image that is the code of the program's one procedure
+pub compiled_simulates : (l : Linked) (main p : Proc) (image : Image) → Some main ≡ slice_get l.procs 0 → image ≡ code_of l main → IsFormed l p → (input : List ℤ) → Simulates l p image input
+compiled_simulates l main p image first is formed input =
+    let same : Some main ≡ Some p = first ∙ ap (λ ps. slice_get ps 0) formed.procs in
+    let one : main ≡ p = cc in
+    let P : Image → Type 0 = λ i. Simulates l p i input in
+    subst P (sym (is ∙ ap (code_of l) one)) (simulates_lem l p formed input)

@@ -1,13 +1,18 @@
 //! From a linked program to its code.
 
-ghost use Rattle.std.specs.Prelude.{◌≡◌, ◌<◌, ◌≤◌, ◌+◌, [], ◌∷◌, ◌++◌, IfOk, length, slice_set};
-ghost use Rattle.stack_machine.specs.Code.{body_code, expr_code, op_code, stmt_code};
-ghost use Rattle.stack_machine.specs.Refusal.{Emitted, most_instructions};
+ghost use Rattle.std.specs.Prelude.{◌≡◌, ◌<◌, ◌≤◌, ◌+◌, ◌^◌, [], ◌∷◌, ◌++◌, false, IfErr, IfOk, List, OnOk, length, slice_set, ℤ};
+ghost use Rattle.stack_machine.specs.Code.{body_code, code_of, expr_code, init_code, op_code, proc_code, stmt_code};
+ghost use Rattle.stack_machine.specs.Refusal.{Emitted, IsCodeRefusal, most_instructions};
+ghost use Rattle.stack_machine.specs.Simulation.{Simulates};
+ghost use Rattle.source_meaning.specs.Formed.{IsFormed};
+ghost use Rattle.source_meaning.specs.declared.linked.Proc.{Proc};
 ghost use Rattle.stack_machine.specs.declared.image.Instr.{Instr};
 
-use crate::image::Instr;
-use source_meaning::{BinOp, LExpr, LStmt};
+use crate::image::{Image, Instr, ProcInfo};
+use math_terms::NoMemory;
+use source_meaning::{BinOp, LExpr, LStmt, Linked, Proc, Spot, TypeForm};
 use sqlite_items::Items;
+use std::alloc::Global;
 
 /// Why a program has no code: it would have more than 65,536 instructions, or memory ran out.
 #[derive(Clone, Copy, Debug, PartialEq, Eq)]
@@ -166,4 +171,110 @@ fn emit_statements(code: &mut Vec<Instr>, statements: &Items<LStmt>) -> Result<(
         emit_statement(code, statement)?;
     }
     Ok(())
+}
+
+// The variables from this number on, each made with its type.
+fn emit_variables(code: &mut Vec<Instr>, types: &Items<u32>) -> Result<(), CodeError>
+    requires { length code.old.items ≤ most_instructions }
+    ensures { Emitted code.old.items code.new.items (init_code 0 types.now) result }
+{
+    for (number, type_number) in types.as_slice().iter().enumerate() {
+        put(code, Instr::Init(Spot::Local(number as u32), *type_number))?;
+    }
+    Ok(())
+}
+
+// The instructions of a procedure.
+fn emit_procedure(code: &mut Vec<Instr>, procedure: &Proc) -> Result<(), CodeError>
+    requires { code.old.items ≡ [] }
+    ensures { Emitted code.old.items code.new.items (proc_code procedure.now) result }
+{
+    emit_variables(code, &procedure.locals)?;
+    emit_statements(code, &procedure.body)?;
+    put(code, Instr::Return)
+}
+
+// A second form of a type.
+fn copy_form(alloc: Global, form: &TypeForm) -> Result<TypeForm, NoMemory>
+    ensures { IfOk result (λ copy. copy ≡ form.now) }
+{
+    match form {
+        TypeForm::Int => Ok(TypeForm::Int),
+        TypeForm::Bool => Ok(TypeForm::Bool),
+        TypeForm::Array(size, entry) => Ok(TypeForm::Array(*size, *entry)),
+        TypeForm::Record(instance, fields) => match Items::from_slice(alloc, fields.as_slice()) {
+            Ok(fields) => Ok(TypeForm::Record(*instance, fields)),
+            Err(_) => Err(NoMemory),
+        },
+    }
+}
+
+// The forms of the same types.
+fn copy_forms(alloc: Global, forms: &Items<TypeForm>) -> Result<Items<TypeForm>, NoMemory>
+    ensures { IfOk result (λ copy. copy ≡ forms.now) }
+{
+    let mut copies = Items::new(alloc);
+    for form in forms.as_slice() {
+        let copy = copy_form(alloc, form)?;
+        if copies.push(copy).is_err() {
+            return Err(NoMemory);
+        }
+    }
+    Ok(copies)
+}
+
+// What an image says of Main.
+fn copy_heading(alloc: Global, main: &Proc) -> Result<Items<ProcInfo>, NoMemory>
+    requires { length main.now.locals < 2 ^ 32 }
+    ensures { IfOk result (λ procs. procs ≡ record { name = main.now.operation; start = 0; given = []; result = false; locals = length main.now.locals } ∷ []) }
+{
+    let heading = ProcInfo {
+        name: main.operation.copy(alloc)?,
+        start: 0,
+        given: Items::new(alloc),
+        result: false,
+        locals: main.locals.len() as u32,
+    };
+    let mut procs = Items::new(alloc);
+    match procs.push(heading) {
+        Ok(()) => Ok(procs),
+        Err(_) => Err(NoMemory),
+    }
+}
+
+// The image of a program whose one procedure is Main.
+#[tactic(auto, using(crate::proofs::Patch::locals_few))]
+fn compile_main(alloc: Global, l: &Linked, main: &Proc) -> Result<Image, CodeError>
+    ensures code { IfOk result (λ image. image ≡ code_of l.now main.now) }
+    ensures few { OnOk result (length (proc_code main.now) ≤ most_instructions) }
+    ensures too_long { IfErr result (λ e. e ≡ CodeError.CodeTooLong → most_instructions < length (proc_code main.now)) }
+{
+    let mut code = Vec::new(alloc);
+    emit_procedure(&mut code, main)?;
+    let Ok(types) = copy_forms(alloc, &l.types) else {
+        return Err(CodeError::NoMemory);
+    };
+    let Ok(procs) = copy_heading(alloc, main) else {
+        return Err(CodeError::NoMemory);
+    };
+    Ok(Image {
+        types,
+        procs,
+        code: Items::from_vec(code),
+        main: 0,
+    })
+}
+
+/// The code of a formed program.
+pub fn compile(alloc: Global, l: &Linked) -> Result<Image, CodeError>
+    requires formed { (p : Proc) × IsFormed l.now p }
+    ensures code { IfOk result (λ image. (p : Proc) → IsFormed l.now p → image ≡ code_of l.now p) }
+    ensures simulates { IfOk result (λ image. (p : Proc) → IsFormed l.now p → (input : List ℤ) → Simulates l.now p image input) }
+    ensures few { IfOk result (λ image. length image.code ≤ most_instructions) }
+    ensures too_long { IfErr result (λ e. IsCodeRefusal e l.now) }
+{
+    let Some(main) = l.procs.get(0) else {
+        unreachable!()
+    };
+    compile_main(alloc, l, main)
 }

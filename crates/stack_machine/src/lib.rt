@@ -9,7 +9,7 @@ mod operands;
 mod operators;
 mod running;
 
-pub use codegen::CodeError;
+pub use codegen::{CodeError, compile};
 pub use image::{Cell, Image, Instr, ProcInfo, Stop};
 pub use machine::run;
 pub use source_meaning::{Scalar, Spot, TypeForm};
