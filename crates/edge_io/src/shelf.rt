@@ -3,7 +3,12 @@
 ghost use Rattle.std.specs.Prelude.{◌≡◌, ◌<◌, ◌≤◌, ◌^◌, length, IsErrOf, IsTrue, OnOk, Some};
 ghost use Rattle.edge_io.specs.Faults.{Rose};
 
+use crate::source::Failed;
+use std::alloc::{AllocError, AllocFailed};
 use thiserror::Error;
+
+/// The most bytes of a file.
+pub const LONGEST_FILE: usize = 16_777_216;
 
 /// Why a shelf refused a call.
 #[derive(Debug, Drop, Error)]
@@ -16,6 +21,39 @@ pub enum ShelfError {
     Failed,
     #[error("out of memory")]
     NoMemory,
+}
+
+impl From<AllocError> for ShelfError {
+    ghost use Rattle.std.specs.Prelude.{◌≡◌};
+    ghost use Rattle.edge_io.specs.declared.shelf.ShelfError.TheVariants.{NoMemory};
+
+    ghost from_gives = { λ _ e. e ≡ NoMemory };
+
+    fn from(_refused: AllocError) -> ShelfError {
+        ShelfError::NoMemory
+    }
+}
+
+impl<T: Drop> From<AllocFailed<T>> for ShelfError {
+    ghost use Rattle.std.specs.Prelude.{◌≡◌};
+    ghost use Rattle.edge_io.specs.declared.shelf.ShelfError.TheVariants.{NoMemory};
+
+    ghost from_gives = { λ _ e. e ≡ NoMemory };
+
+    fn from(_refused: AllocFailed<T>) -> ShelfError {
+        ShelfError::NoMemory
+    }
+}
+
+impl From<Failed> for ShelfError {
+    ghost use Rattle.std.specs.Prelude.{◌≡◌};
+    ghost use Rattle.edge_io.specs.declared.shelf.ShelfError.TheVariants.{Failed};
+
+    ghost from_gives = { λ _ e. e ≡ Failed };
+
+    fn from(_failed: Failed) -> ShelfError {
+        ShelfError::Failed
+    }
 }
 
 /// Files by name. A name is a path; a file has at most 16,777,216 bytes.

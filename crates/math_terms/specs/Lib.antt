@@ -4,3 +4,5 @@ pub mod Meaning
 pub mod Descriptors
 pub mod Validity
 pub mod Plain
+pub mod Laws
+pub mod Evaluating

@@ -1,6 +1,8 @@
 -- Terms as trees: their size, and substitution.
-use Rattle.std.specs.Prelude.{ℕ, ◌+◌, ◌==◌, Bool, true, ◌&&◌, List, [], ◌∷◌, sum, if◌then◌else◌}
+use Rattle.std.specs.Prelude.{ℕ, ◌+◌, ◌==◌, ◌<◌, min, Bool, true, ◌&&◌, List, [], ◌∷◌, sum, if◌then◌else◌}
 use Rattle.std.specs.List.{list_all}
+use Rattle.math_terms.specs.declared.name.TermError.{TermError}
+use Rattle.math_terms.specs.declared.name.TermError.TheVariants.{TooLarge, SortClash, NoMemory}
 use Rattle.math_terms.specs.declared.term.Term.{Term}
 use Rattle.math_terms.specs.declared.term.Term.TheOpen.{Term-F}
 use Rattle.math_terms.specs.declared.term.Term.TheViews.{roll-Term}
@@ -38,6 +40,21 @@ nodes_step (Term-F.Initial k a) = 1 + a
 abbrev pub nodes : Term → ℕ
 nodes t = fold-Term ℕ nodes_step t
 
+-- how many nodes a term has where each variable v counts as n
+abbrev pub nodes_with_step : ℕ → ℕ → Term-F ℕ → ℕ
+nodes_with_step v n (Term-F.Var k) = if k == v then n else 1
+nodes_with_step v n x = nodes_step x
+
+abbrev pub nodes_with : ℕ → ℕ → Term → ℕ
+nodes_with v n t = fold-Term ℕ (nodes_with_step v n) t
+
+-- the same count, which stops at most + 1
+abbrev pub count_step : ℕ → ℕ → ℕ → Term-F ℕ → ℕ
+count_step v n most x = min (nodes_with_step v n x) (most + 1)
+
+abbrev pub count_up_to : ℕ → ℕ → ℕ → Term → ℕ
+count_up_to v n most t = fold-Term ℕ (count_step v n most) t
+
 -- `by` for each variable v
 abbrev pub put_step : ℕ → Term → Term-F Term → Term
 put_step v by (Term-F.Num n) = roll-Term (Term-F.Num n)
@@ -69,6 +86,12 @@ put_step v by (Term-F.Initial k a) = roll-Term (Term-F.Initial k a)
 
 abbrev pub put : ℕ → Term → Term → Term
 put v by t = fold-Term Term (put_step v by) t
+
+-- Why a substitution is refused whose result has n nodes: it would have more than 10,000, or memory has run out.
+abbrev pub IsSizeRefusal : TermError → ℕ → Type 0
+IsSizeRefusal TooLarge n = 10000 < n
+IsSizeRefusal (SortClash node) n = ⊥
+IsSizeRefusal NoMemory n = Unit {0}
 
 -- whether all children pass
 abbrev pub every_child : Term-F Bool → Bool

@@ -1,0 +1,3 @@
+pub mod TermValues
+pub mod Sound
+pub mod Machine

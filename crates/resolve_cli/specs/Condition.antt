@@ -7,9 +7,9 @@ use Rattle.math_terms.specs.declared.term.Term.TheViews.{roll-Term}
 use Rattle.math_terms.specs.declared.descriptor.Desc.{Desc}
 use Rattle.math_terms.specs.declared.descriptor.Shape.TheOpen.{Shape-F}
 use Rattle.math_terms.specs.declared.descriptor.Shape.TheViews.{roll-Shape, roll-Desc}
-use Rattle.math_terms.specs.Values.{Val, Num, string, truth}
-use Rattle.math_terms.specs.Meaning.{Valuation, set_to, value_where}
-use Rattle.math_terms.specs.Descriptors.{nothing, zeros}
+use Rattle.math_terms.specs.Values.{Val, Num, string}
+use Rattle.math_terms.specs.Meaning.{Valuation, set_to}
+use Rattle.math_terms.specs.Descriptors.{Interpretation, holds, zeros}
 use Rattle.math_terms.specs.Terms.{put}
 use Rattle.math_terms.specs.Plain.{is_plain}
 use Rattle.math_terms.specs.Validity.{IsValid}
@@ -80,9 +80,17 @@ pub record Condition : Type 0 where
   pub goal : Term
 
 -- The facts on the bounds of integers, and that Main begins with an empty output.
+abbrev pub least : Term
+least = at_most min_int (num (negsuc 999999999))
+
+abbrev pub greatest : Term
+greatest = at_most (num (pos 1000000000)) max_int
+
+abbrev pub begins_empty : Term
+begins_empty = equal output empty_string
+
 abbrev pub hypotheses : List Term
-hypotheses =
-    at_most min_int (num (negsuc 999999999)) ∷ at_most (num (pos 1000000000)) max_int ∷ equal output empty_string ∷ []
+hypotheses = least ∷ greatest ∷ begins_empty ∷ []
 
 -- the goal: the output at the end is what is claimed
 abbrev pub goal_of : Form → Term
@@ -107,7 +115,7 @@ IsClosed hyps goal = Contains hyps goal ⊎ ((t : Term) × (goal ≡ equal t t))
 
 -- With the empty string for the output the goal can be computed, and is true.
 abbrev pub IsComputed : Term → Type 0
-IsComputed goal = (is_plain (put 2 empty_string goal) ≡ true) × (truth (value_where nothing zeros (put 2 empty_string goal)) ≡ true)
+IsComputed goal = (is_plain (put 2 empty_string goal) ≡ true) × ((I : Interpretation) (w : Valuation) → IsTrue (holds I w (put 2 empty_string goal)))
 
 abbrev pub IsProved : Condition → Type 0
 IsProved c = IsClosed c.hyps c.goal ⊎ IsComputed c.goal
@@ -125,4 +133,4 @@ ensures_of f = equal output (claim f.claimed)
 
 -- Main allows an output, from the input and its rest at the end.
 abbrev pub Allows : Form → List ℤ → List ℤ → List ℤ → Type 0
-Allows f input rest written = IsTrue (truth (value_where nothing (main_values input rest written) (ensures_of f)))
+Allows f input rest written = (I : Interpretation) → IsTrue (holds I (main_values input rest written) (ensures_of f))

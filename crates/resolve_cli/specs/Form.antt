@@ -1,5 +1,5 @@
 -- The form of the modules that are read: one facility module whose only operation is Main, which writes literals.
-use Rattle.std.specs.Prelude.{◌≡◌, ◌≢◌, ℕ, zero, suc, ℤ, pos, ◌-ℤ◌, ◌+◌, ◌-◌, ◌≤◌, ◌<◌, Bool, true, false, List, [], ◌∷◌, ◌++◌, length, map, take, Option, Some, None, slice_get, codes, IsTrue}
+use Rattle.std.specs.Prelude.{◌≡◌, ◌≢◌, ℕ, zero, suc, ℤ, pos, ◌-ℤ◌, ◌≤ℤ◌, ◌+◌, ◌-◌, ◌≤◌, ◌<◌, Bool, true, false, List, [], ◌∷◌, ◌++◌, length, map, take, Option, Some, None, slice_get, codes, IsTrue}
 use Rattle.res_lexer.specs.declared.token.Token.{Token}
 use Rattle.res_lexer.specs.declared.token.TokenKind.{TokenKind}
 use Rattle.res_lexer.specs.declared.token.TokenKind.TheVariants as kind
@@ -16,6 +16,15 @@ worth true n = pos 0 -ℤ n
 
 abbrev pub number_of : Literal → ℤ
 number_of l = worth l.minus l.digits
+
+-- the digits of a literal of a text stand for 0 to 1,000,000,000
+abbrev pub IsSmallLiteral : Literal → Type 0
+IsSmallLiteral l = (pos 0 ≤ℤ l.digits) × (l.digits ≤ℤ pos 1000000000)
+
+abbrev pub IsSmallToken : TokenKind → Type 0
+IsSmallToken (kind.Word name) = Unit {0}
+IsSmallToken (kind.Literal n) = (pos 0 ≤ℤ n) × (n ≤ℤ pos 1000000000)
+IsSmallToken (kind.Symbol k) = Unit {0}
 
 -- The three names are identifiers, and the streams have different ones.
 pub record IsForm (f : Form) : Type 0 where

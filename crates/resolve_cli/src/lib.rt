@@ -1,6 +1,7 @@
 //! The top call: words, files and input in, a status and bytes out.
 #![tactic(auto)]
 
+mod condition;
 pub mod module;
 mod status;
 

@@ -1,5 +1,7 @@
 //! The modules that are read.
 
+ghost use Rattle.std.specs.Prelude.{◌≡◌};
+
 use math_terms::{Items, Name};
 
 /// A literal, as it is spelled: with a `-` before it or not. The digits stand for 0 to 1,000,000,000.
@@ -7,6 +9,18 @@ use math_terms::{Items, Name};
 pub struct Literal {
     pub minus: bool,
     pub digits: i64,
+}
+
+impl Literal {
+    ghost use Rattle.resolve_cli.specs.Form.{IsSmallLiteral, number_of};
+
+    /// The number that the literal stands for.
+    pub fn number(self) -> i64
+        requires { IsSmallLiteral self }
+        ensures { result ≡ number_of self }
+    {
+        if self.minus { 0 - self.digits } else { self.digits }
+    }
 }
 
 /// A facility module whose only operation is Main: its name, the names of Main's streams, the operands of the

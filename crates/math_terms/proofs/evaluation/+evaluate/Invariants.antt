@@ -1,0 +1,12 @@
+use Rattle.std.proofs.Common.{◌≡◌, true, map, take}
+use Rattle.std.specs.List.{list_all}
+use Rattle.math_terms.specs.Values.{denotes}
+use Rattle.math_terms.specs.Plain.{is_plain}
+use Rattle.math_terms.specs.Evaluating.{plain_value}
+use Rattle.math_terms.proofs.evaluation.+evaluate.Given as goal
+
+abbrev pub invariant-evaluate_tuple-loop-t : goal.invariant-evaluate_tuple-loop-t
+invariant-evaluate_tuple-loop-t l = record {
+  values : map denotes l.out ≡ map plain_value (take l.t-index l.parts);
+  plain : list_all is_plain (take l.t-index l.parts) ≡ true;
+}
