@@ -109,7 +109,7 @@ inits image input (t ∷ ts) done h has =
     ∙ ap (λ l. Some (stands (length done + suc (length ts)) (cells l) [] input [])) (append_assoc done (v ∷ []) (initial_values image.types ts))
 
 -- a run that is stuck stays so
-none_stays : (image : Image) (input : List ℤ) (n d : ℕ) → after image input n ≡ None → after image input (n + d) ≡ None
+pub none_stays : (image : Image) (input : List ℤ) (n d : ℕ) → after image input n ≡ None → after image input (n + d) ≡ None
 none_stays image input n zero h = let e : n + 0 ≡ n = omega arith in ap (after image input) e ∙ h
 none_stays image input n (suc d) h =
     let e : n + suc d ≡ suc (n + d) = omega arith in

@@ -5,3 +5,4 @@ pub mod Code
 pub mod Simulation
 pub mod Running
 pub mod Refusal
+pub mod Samples
