@@ -18,7 +18,7 @@ use Rattle.stack_machine.specs.declared.codegen.CodeError.TheVariants.{CodeTooLo
 use Rattle.stack_machine.specs.Code.{expr_code, joined, when_code, choice_code, if_code, stmt_step, stmt_code, body_code, init_code, proc_code}
 use Rattle.stack_machine.specs.Refusal.{Emitted, most_instructions}
 
-code_if : (g : LExpr) (a b : List LStmt) (at : ℕ) → stmt_code (LIf g a b) at ≡ if_code (expr_code g) (map stmt_code a) (map stmt_code b) at
+pub code_if : (g : LExpr) (a b : List LStmt) (at : ℕ) → stmt_code (LIf g a b) at ≡ if_code (expr_code g) (map stmt_code a) (map stmt_code b) at
 code_if g a b at = ap (λ (f : ℕ → List Instr). f at) (ap stmt_code (sym (rolls-LIf g a b)) ∙ fold-roll-LStmt (ℕ → List Instr) stmt_step (LStmt-F.LIf g a b))
 
 if_when : (g : List Instr) (a b : List LStmt) (at : ℕ) → b ≡ [] → if_code g (map stmt_code a) (map stmt_code b) at ≡ when_code g (body_code a) at

@@ -1,5 +1,5 @@
 -- The programs of the tests are formed, and their runs are never stuck.
-use Rattle.std.proofs.Common.{◌≡◌, ℕ, ◌≤◌, ◌<◌, ◌+◌, ◌-◌, ℤ, pos, List, [], ◌∷◌, Bool, true, false, ◌&&◌, map, Option, Some, None, refl, sym, ap, ◌∙◌, subst, ⊎_elim, arith}
+use Rattle.std.proofs.Common.{◌≡◌, ℕ, ◌≤◌, ◌<◌, ◌+◌, ◌-◌, ℤ, pos, List, [], ◌∷◌, ◌++◌, Bool, true, false, ◌&&◌, map, Option, Some, None, refl, sym, ap, ◌∙◌, subst, ⊎_elim, arith}
 use Rattle.std.specs.Prelude.{IsSome, codes}
 use Rattle.std.proofs.lemmas.Bool.{cases_lt}
 use Rattle.std.specs.List.{list_all}
@@ -20,10 +20,12 @@ use Rattle.source_meaning.specs.declared.linked.LStmt.TheFolds.{fold-roll-LStmt}
 use Rattle.stack_machine.specs.declared.image.Instr.{Instr}
 use Rattle.stack_machine.specs.declared.image.Image.{Image}
 use Rattle.stack_machine.specs.Machine.{State, after}
-use Rattle.stack_machine.specs.Code.{code_of}
+use Rattle.stack_machine.specs.declared.image.Instr.TheVariants as instr
+use Rattle.stack_machine.specs.Code.{code_of, op_code, expr_code, expr_step, stmt_code, stmt_step}
 use Rattle.stack_machine.specs.Runs.{HasMain, NeverStuck}
 use Rattle.stack_machine.specs.Samples.{program_of, image_of, one_two, one_two_code, doubler, doubler_code}
 use Rattle.stack_machine.proofs.Going.{halted_stays_lem}
+use Rattle.stack_machine.proofs.Patch.{code_if}
 use Rattle.stack_machine.proofs.Simulated.{none_stays}
 
 some_before : (image : Image) (input : List ℤ) (n m : ℕ) (t : State) (o : Option State) → after image input n ≡ o → n ≤ m → after image input m ≡ Some t → IsSome o
@@ -106,12 +108,28 @@ doubler_formed l e =
     let P : Linked → Type 0 = λ x. (p : Proc) × IsFormed x p in
     subst P (sym e) (_, record { main = refl; procs = refl; modes = refl; params = refl; streams = refl; result = refl; fits = doubler_fits })
 
--- the image of a program with known code
-known_image : (l : Linked) (image c : Image) (code : List Instr) → image ≡ c → image.code ≡ code → image ≡ record c { code = code }
-known_image l image c code e h = e ∙ ap (λ x. record c { code = x }) (sym (ap (λ i. i.code) e) ∙ h)
+code_const : (c : Scalar) → expr_code (expr.Const c) ≡ instr.Push c ∷ []
+code_const c = ap expr_code (sym (expr.rolls-Const c)) ∙ fold-roll-LExpr (List Instr) expr_step (LExpr-F.Const c)
 
-pub doubler_image : (l : Linked) (image : Image) → l ≡ program_of (0 ∷ []) doubler → image.code ≡ doubler_code → ((p : Proc) → IsFormed l p → image ≡ code_of l p) → image ≡ image_of doubler_code 1
-doubler_image l image e h compiled =
+code_get : (p : Spot) → expr_code (expr.Get p) ≡ instr.Load p ∷ []
+code_get p = ap expr_code (sym (expr.rolls-Get p)) ∙ fold-roll-LExpr (List Instr) expr_step (LExpr-F.Get p)
+
+code_op : (op : BinOp) (a b : LExpr) → expr_code (expr.Op op a b) ≡ expr_code a ++ (expr_code b ++ op_code op)
+code_op op a b = ap expr_code (sym (expr.rolls-Op op a b)) ∙ fold-roll-LExpr (List Instr) expr_step (LExpr-F.Op op a b)
+
+code_set : (p : Spot) (e : LExpr) (at : ℕ) → stmt_code (stmt.LSet p e) at ≡ expr_code e ++ instr.Store p ∷ []
+code_set p e at = ap (λ (f : ℕ → List Instr). f at) (ap stmt_code (sym (stmt.rolls-LSet p e)) ∙ fold-roll-LStmt (ℕ → List Instr) stmt_step (LStmt-F.LSet p e))
+
+code_read : (p : Spot) (at : ℕ) → stmt_code (stmt.LRead p) at ≡ instr.ReadIn p ∷ []
+code_read p at = ap (λ (f : ℕ → List Instr). f at) (ap stmt_code (sym (stmt.rolls-LRead p)) ∙ fold-roll-LStmt (ℕ → List Instr) stmt_step (LStmt-F.LRead p))
+
+code_write : (e : LExpr) (at : ℕ) → stmt_code (stmt.LWrite e) at ≡ expr_code e ++ instr.WriteOut ∷ []
+code_write e at = ap (λ (f : ℕ → List Instr). f at) (ap stmt_code (sym (stmt.rolls-LWrite e)) ∙ fold-roll-LStmt (ℕ → List Instr) stmt_step (LStmt-F.LWrite e))
+
+doubler_compiles : code_of (program_of (0 ∷ []) doubler) main_of_doubler ≡ image_of doubler_code 1
+doubler_compiles = simp (code_read, code_if, code_set, code_write, code_op, code_get, code_const)
+
+pub doubler_image : (l : Linked) (image : Image) → l ≡ program_of (0 ∷ []) doubler → ((p : Proc) → IsFormed l p → image ≡ code_of l p) → image ≡ image_of doubler_code 1
+doubler_image l image e compiled =
     let P : Linked → Type 0 = λ x. ((p : Proc) → IsFormed x p → image ≡ code_of x p) in
-    let is = subst P e compiled main_of_doubler formed_main in
-    known_image l image (code_of (program_of (0 ∷ []) doubler) main_of_doubler) doubler_code is h
+    subst P e compiled main_of_doubler formed_main ∙ doubler_compiles
