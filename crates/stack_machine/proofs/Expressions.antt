@@ -1,6 +1,6 @@
 -- The code of an expression leaves its value on the operands.
-use Rattle.std.proofs.Common.{◌≡◌, ℕ, zero, suc, ◌+◌, ◌<◌, ◌≤◌, ℤ, pos, negsuc, ◌+ℤ◌, ◌-ℤ◌, List, [], ◌∷◌, ◌++◌, length, map, Bool, true, false, not, ◌&&◌, ◌||◌, Option, Some, None, refl, sym, ap, ◌∙◌, subst, arith, append_assoc, length-append}
-use Rattle.std.specs.Prelude.{Result, Ok, Err, IsTrue, option_and_then, slice_get, slice_set, slice_index_or, int_lt, int_le, if◌then◌else◌}
+use Rattle.std.proofs.Common.{◌≡◌, ℕ, zero, suc, ◌+◌, ℤ, pos, negsuc, ◌+ℤ◌, ◌-ℤ◌, List, [], ◌∷◌, ◌++◌, length, map, Bool, true, false, not, ◌&&◌, ◌||◌, Option, Some, None, refl, sym, ap, ◌∙◌, subst, arith, length-append}
+use Rattle.std.specs.Prelude.{Ok, Err, option_and_then, slice_get, slice_index_or, int_lt, int_le, if◌then◌else◌}
 use Rattle.std.specs.Ordering.{int_eq}
 use Rattle.std.proofs.Math.Dec.{leb, leb-zero, leb-suc-zero, leb-suc-suc}
 use Rattle.source_meaning.specs.declared.linked.Scalar.{Scalar}
@@ -11,16 +11,15 @@ use Rattle.source_meaning.specs.declared.linked.BinOp.TheVariants.{Add, Sub, Eq,
 use Rattle.source_meaning.specs.declared.linked.LExpr.{LExpr}
 use Rattle.source_meaning.specs.declared.linked.LExpr.TheOpen.{LExpr-F}
 use Rattle.source_meaning.specs.declared.linked.LExpr.TheViews.{roll-LExpr}
-use Rattle.source_meaning.specs.declared.linked.LExpr.TheFolds.{map-LExpr, fold-LExpr, fold-roll-LExpr, ind-LExpr}
-use Rattle.source_meaning.specs.declared.trace.WrongKind.{WrongKind}
+use Rattle.source_meaning.specs.declared.linked.LExpr.TheFolds.{map-LExpr, fold-roll-LExpr, ind-LExpr}
 use Rattle.source_meaning.specs.declared.trace.WrongKind.TheVariants.{Range}
-use Rattle.source_meaning.specs.Meaning.{Store, is_word, same, same_truth, apply, at_spot, with_spot, value_step, value, with_value, in_range, decided, Found, truth}
+use Rattle.source_meaning.specs.Meaning.{Store, is_word, same_truth, apply, at_spot, with_spot, value_step, value, with_value, in_range, decided, Found, truth}
 use Rattle.source_meaning.specs.Formed.{Kind, Number, Truth, known, kind_at, kind_of_scalar, two_numbers, two_truths, two_alike, kind_of_op, kind_step, kind_of}
 use Rattle.stack_machine.specs.declared.image.Cell.{Cell}
 use Rattle.stack_machine.specs.declared.image.Instr.{Instr}
 use Rattle.stack_machine.specs.declared.image.Instr.TheVariants as instr
 use Rattle.stack_machine.specs.declared.image.Image.{Image}
-use Rattle.stack_machine.specs.Machine.{Frame, State, act, step, scalar_of, cell_at, with_cell, replaced, in_word, with_operands, pushed_scalar}
+use Rattle.stack_machine.specs.Machine.{Frame, State, act, scalar_of, cell_at, with_cell, replaced, in_word, with_operands, pushed_scalar}
 use Rattle.stack_machine.specs.Code.{op_code, expr_step, expr_code}
 use Rattle.stack_machine.specs.Running.{cell_of_scalar}
 use Rattle.stack_machine.proofs.Going.{go, go_add}
@@ -207,10 +206,12 @@ module _ (image : Image) (locals : List Cell) (input output : List ℤ) where
 
   turned_made : (pc : ℕ) (from stack : List Scalar) (i : Instr) (b c : Bool) (k : Kind) → HasAt image.code pc (i ∷ instr.Not ∷ []) → act image (frame pc locals from) [] input output i ≡ Some (stands (pc + 1) locals (Scalar.Bool b ∷ stack) input output) → not b ≡ c → Truth ≡ k → Gives pc from stack 2 k (Ok (Scalar.Bool c))
   turned_made pc from stack i b c k h e nb kn =
-      let two : pc + 1 + 1 ≡ pc + 2 = omega arith in
-      (then_one image (stands pc locals from input output) 1 (pc + 1) locals (Scalar.Bool b ∷ stack) input output instr.Not _ (one image pc locals from input output i _ h.0 e) h.1.0 refl
-      ∙ ap (λ q. Some (stands q locals (Scalar.Bool (not b) ∷ stack) input output)) two
-      ∙ ap (λ x. Some (stands (pc + 2) locals (Scalar.Bool x ∷ stack) input output)) nb, kn)
+      let two : pc + 1 + 1 ≡ pc + 2 = omega arith in (
+        then_one image (stands pc locals from input output) 1 (pc + 1) locals (Scalar.Bool b ∷ stack) input output instr.Not _ (one image pc locals from input output i _ h.0 e) h.1.0 refl
+            ∙ ap (λ q. Some (stands q locals (Scalar.Bool (not b) ∷ stack) input output)) two
+            ∙ ap (λ x. Some (stands (pc + 2) locals (Scalar.Bool x ∷ stack) input output)) nb,
+        kn,
+      )
 
   -- an operator on two values of the kinds that it asks
   op_runs : (op : BinOp) (a b : Scalar) (k : Kind) (pc : ℕ) (stack : List Scalar) → kind_of_op op (Some (kind_of_scalar a)) (Some (kind_of_scalar b)) ≡ Some k → HasAt image.code pc (op_code op) → Gives pc (b ∷ a ∷ stack) stack (length (op_code op)) k (apply op a b)

@@ -1,5 +1,5 @@
 -- Code is put together, and jumps are written once their targets are known.
-use Rattle.std.proofs.Common.{◌≡◌, ◌≢◌, ℕ, suc, ◌+◌, ◌-◌, ◌^◌, ◌<◌, ◌≤◌, List, [], ◌∷◌, ◌++◌, length, map, take, drop, get_or, refl, sym, ap, ◌∙◌, subst, arith, append_assoc, length-append}
+use Rattle.std.proofs.Common.{◌≡◌, ◌≢◌, ℕ, suc, ◌+◌, ◌^◌, ◌<◌, ◌≤◌, List, [], ◌∷◌, ◌++◌, length, map, take, drop, get_or, refl, sym, ap, ◌∙◌, arith, append_assoc, length-append}
 use Rattle.std.specs.Prelude.{Result, Ok, Err, slice_set}
 use Rattle.std.proofs.Math.ListN.{length-set, length-take}
 use Rattle.std.proofs.Math.Seq.{set-append_seam}
@@ -10,12 +10,12 @@ use Rattle.source_meaning.specs.declared.linked.LExpr.{LExpr}
 use Rattle.source_meaning.specs.declared.linked.LStmt.{LStmt}
 use Rattle.source_meaning.specs.declared.linked.LStmt.TheVariants.{LIf, rolls-LIf}
 use Rattle.source_meaning.specs.declared.linked.LStmt.TheOpen.{LStmt-F}
-use Rattle.source_meaning.specs.declared.linked.LStmt.TheFolds.{fold-LStmt, fold-roll-LStmt}
+use Rattle.source_meaning.specs.declared.linked.LStmt.TheFolds.{fold-roll-LStmt}
 use Rattle.stack_machine.specs.declared.image.Instr.{Instr}
 use Rattle.stack_machine.specs.declared.image.Instr.TheVariants.{Init, Jump, JumpFalse, Return}
 use Rattle.stack_machine.specs.declared.codegen.CodeError.{CodeError}
 use Rattle.stack_machine.specs.declared.codegen.CodeError.TheVariants.{CodeTooLong, NoMemory}
-use Rattle.stack_machine.specs.Code.{expr_code, joined, when_code, choice_code, if_code, stmt_step, stmt_code, body_code, init_code, proc_code}
+use Rattle.stack_machine.specs.Code.{expr_code, when_code, choice_code, if_code, stmt_step, stmt_code, body_code, init_code, proc_code}
 use Rattle.stack_machine.specs.Refusal.{Emitted, most_instructions}
 
 pub code_if : (g : LExpr) (a b : List LStmt) (at : ℕ) → stmt_code (LIf g a b) at ≡ if_code (expr_code g) (map stmt_code a) (map stmt_code b) at
@@ -135,14 +135,16 @@ pub second_room : (x : LStmt) (g : LExpr) (a b : List LStmt) (o c1 c2 c3 c4 : Li
 second_room x g a b o c1 c2 c3 c4 n1 n2 is some e1 m1 e2 m2 e3 e4 = omega (arith, choice_second o (expr_code g) c1 (body_code a) e1 (body_code b) c2 c3 c4 n1 n2 m1 e2 m2 e3 e4, ap length (whole_choice x g a b (length o) is some))
 
 pub when_whole : (x : LStmt) (g : LExpr) (a b : List LStmt) (o c1 c2 c3 : List Instr) (n1 : ℕ) → x ≡ LIf g a b → b ≡ [] → c1 ≡ o ++ (expr_code g ++ JumpFalse 0 ∷ []) → n1 + 1 ≡ length c1 → (c2 ≡ c1 ++ body_code a (length c1)) × (length c2 ≤ most_instructions) → c3 ≡ slice_set c2 n1 (JumpFalse (length c2)) → (c3 ≡ o ++ stmt_code x (length o)) × (length c3 ≤ most_instructions)
-when_whole x g a b o c1 c2 c3 n1 is none e1 m1 e2 e3 =
-    (patch_when o (expr_code g) c1 (body_code a) e1 c2 c3 n1 m1 e2.0 e3 ∙ ap (λ l. o ++ l) (whole_when x g a b (length o) is none),
-    omega (arith, e2.1, ap length e3, length-set c2 n1 (JumpFalse (length c2))))
+when_whole x g a b o c1 c2 c3 n1 is none e1 m1 e2 e3 = (
+  patch_when o (expr_code g) c1 (body_code a) e1 c2 c3 n1 m1 e2.0 e3 ∙ ap (λ l. o ++ l) (whole_when x g a b (length o) is none),
+  omega (arith, e2.1, ap length e3, length-set c2 n1 (JumpFalse (length c2))),
+)
 
 pub choice_whole : (x : LStmt) (g : LExpr) (a b : List LStmt) (o c1 c2 c3 c4 c5 c6 : List Instr) (n1 n2 : ℕ) → x ≡ LIf g a b → b ≢ [] → c1 ≡ o ++ (expr_code g ++ JumpFalse 0 ∷ []) → n1 + 1 ≡ length c1 → c2 ≡ c1 ++ body_code a (length c1) → n2 ≡ length c2 → c3 ≡ c2 ++ Jump 0 ∷ [] → c4 ≡ slice_set c3 n1 (JumpFalse (length c3)) → (c5 ≡ c4 ++ body_code b (length c4)) × (length c5 ≤ most_instructions) → c6 ≡ slice_set c5 n2 (Jump (length c5)) → (c6 ≡ o ++ stmt_code x (length o)) × (length c6 ≤ most_instructions)
-choice_whole x g a b o c1 c2 c3 c4 c5 c6 n1 n2 is some e1 m1 e2 m2 e3 e4 e5 e6 =
-    (patch_choice o (expr_code g) c1 (body_code a) e1 (body_code b) c2 c3 c4 n1 n2 m1 e2 m2 e3 e4 c5 c6 e5.0 e6 ∙ ap (λ l. o ++ l) (whole_choice x g a b (length o) is some),
-    omega (arith, e5.1, ap length e6, length-set c5 n2 (Jump (length c5))))
+choice_whole x g a b o c1 c2 c3 c4 c5 c6 n1 n2 is some e1 m1 e2 m2 e3 e4 e5 e6 = (
+  patch_choice o (expr_code g) c1 (body_code a) e1 (body_code b) c2 c3 c4 n1 n2 m1 e2 m2 e3 e4 c5 c6 e5.0 e6 ∙ ap (λ l. o ++ l) (whole_choice x g a b (length o) is some),
+  omega (arith, e5.1, ap length e6, length-set c5 n2 (Jump (length c5))),
+)
 
 pub body-append : (xs ys : List LStmt) (at : ℕ) → body_code (xs ++ ys) at ≡ body_code xs at ++ body_code ys (at + length (body_code xs at))
 body-append [] ys at = let e : at ≡ at + 0 = omega arith in ap (body_code ys) e

@@ -1,6 +1,6 @@
 -- The code of a formed program does what the program means.
-use Rattle.std.proofs.Common.{◌≡◌, ◌≢◌, ℕ, zero, suc, ◌+◌, ◌-◌, ◌*◌, ◌<◌, ◌≤◌, ℤ, pos, List, [], ◌∷◌, ◌++◌, length, map, replicate, Bool, true, false, ◌&&◌, Option, Some, None, refl, sym, ap, ◌∙◌, subst, ⊎_elim, arith, append_assoc, length-append}
-use Rattle.std.specs.Prelude.{IsSome, IsSomeAnd, slice_get, slice_set, option_and_then}
+use Rattle.std.proofs.Common.{◌≡◌, ◌≢◌, ℕ, zero, suc, ◌+◌, ◌-◌, ◌*◌, ◌<◌, ◌≤◌, ℤ, List, [], ◌∷◌, ◌++◌, length, map, replicate, Bool, true, ◌&&◌, Option, Some, None, refl, sym, ap, ◌∙◌, subst, ⊎_elim, arith, append_assoc, length-append}
+use Rattle.std.specs.Prelude.{IsSomeAnd, slice_get, slice_set, option_and_then}
 use Rattle.std.specs.List.{list_all}
 use Rattle.std.proofs.Math.Seq.{get_or-append_seam}
 use Rattle.std.proofs.lemmas.Bool.{and_parts, cases_lt}
@@ -10,26 +10,25 @@ use Rattle.source_meaning.specs.declared.linked.Scalar.{Scalar}
 use Rattle.source_meaning.specs.declared.linked.Spot.TheVariants.{Local}
 use Rattle.source_meaning.specs.declared.linked.TypeForm.{TypeForm}
 use Rattle.source_meaning.specs.declared.linked.TypeForm.TheVariants as form
-use Rattle.source_meaning.specs.declared.linked.LStmt.{LStmt}
 use Rattle.source_meaning.specs.declared.linked.Proc.{Proc}
 use Rattle.source_meaning.specs.declared.linked.Linked.{Linked}
 use Rattle.source_meaning.specs.declared.trace.WrongKind.{WrongKind}
 use Rattle.source_meaning.specs.declared.trace.End.{End}
 use Rattle.source_meaning.specs.declared.trace.End.TheVariants.{Done, Spent, Deep, Wrong}
-use Rattle.source_meaning.specs.Meaning.{Store, Run, Going, Over, run_one, run_all, initial_of, initial_values, begins, ended, run_of}
-use Rattle.source_meaning.specs.Formed.{Kind, Number, Truth, kind_of_form, kinds_of, kind_of_scalar, fits, has_kind, fits_procedure, IsFormed}
+use Rattle.source_meaning.specs.Meaning.{Store, Run, Going, Over, run_all, initial_of, initial_values, begins, ended, run_of}
+use Rattle.source_meaning.specs.Formed.{Kind, kind_of_form, kinds_of, kind_of_scalar, fits, has_kind, IsFormed}
 use Rattle.stack_machine.specs.declared.image.Cell.{Cell}
 use Rattle.stack_machine.specs.declared.image.Instr.{Instr}
 use Rattle.stack_machine.specs.declared.image.Instr.TheVariants as instr
 use Rattle.stack_machine.specs.declared.image.Image.{Image}
 use Rattle.stack_machine.specs.Machine.{Frame, State, step, after, settled, initial_cell}
-use Rattle.stack_machine.specs.Code.{stmt_code, joined, body_code, init_code, proc_code, code_of}
+use Rattle.stack_machine.specs.Code.{stmt_code, joined, init_code, proc_code, code_of}
 use Rattle.stack_machine.specs.Running.{cell_of_scalar}
-use Rattle.stack_machine.specs.Simulation.{IsFront, NeverWrong, Simulates}
+use Rattle.stack_machine.specs.Simulation.{IsFront, Simulates}
 use Rattle.stack_machine.proofs.Going.{go, after_go, halted_stays_lem, after_front}
 use Rattle.stack_machine.proofs.Expressions.{HasAt, has_front, has_back, Fit, cells, stands, frame, one, then_one, then_more}
 use Rattle.stack_machine.proofs.Patch.{length-init_code}
-use Rattle.stack_machine.proofs.Statements.{at, Comes, Spends, Runs, body_runs}
+use Rattle.stack_machine.proofs.Statements.{at, Runs, body_runs}
 
 has_all : (is pre : List Instr) → HasAt (pre ++ is) (length pre) is
 has_all [] pre = tt
@@ -97,7 +96,7 @@ inits image input (t ∷ ts) done h has =
     let locals_are : slice_set holes (length done) (cell_of_scalar v) ≡ cells more ++ rest = made_at done rest (cell_of_scalar v) ∙ sym (append_assoc (cells done) (cell_of_scalar v ∷ []) rest) ∙ ap (λ l. l ++ rest) (sym (cells-append done (v ∷ []))) in
     let f = frame (length done) holes [] in
     let first = one image (length done) holes [] input [] (instr.Init (Local (length done)) t) (stands (length more) (cells more ++ rest) [] input []) has.0
-        (ap (settled f [] input [] [] (Local (length done))) cell_is ∙ ap (λ c. Some (stands (length done + 1) c [] input [])) locals_are ∙ ap (λ k. Some (stands k (cells more ++ rest) [] input [])) (sym len)) in
+    (ap (settled f [] input [] [] (Local (length done))) cell_is ∙ ap (λ c. Some (stands (length done + 1) c [] input [])) locals_are ∙ ap (λ k. Some (stands k (cells more ++ rest) [] input [])) (sym len)) in
     let H : ℕ → Type 0 = λ k. HasAt image.code k (init_code (suc (length done)) ts) in
     let I : ℕ → Type 0 = λ k. HasAt image.code (length more) (init_code k ts) in
     let there = inits image input ts more both.1 (subst I len' (subst H (sym len) has.1)) in

@@ -1,5 +1,5 @@
 -- The code of statements does what the statements do.
-use Rattle.std.proofs.Common.{◌≡◌, ℕ, zero, suc, ◌+◌, ◌<◌, ◌≤◌, ℤ, pos, List, [], ◌∷◌, ◌++◌, length, map, Bool, true, false, ◌&&◌, Option, Some, None, refl, sym, ap, ◌∙◌, subst, arith, append_assoc, length-append}
+use Rattle.std.proofs.Common.{◌≡◌, ℕ, zero, suc, ◌+◌, ◌≤◌, ℤ, List, [], ◌∷◌, ◌++◌, length, map, Bool, true, false, ◌&&◌, Option, Some, None, refl, sym, ap, ◌∙◌, subst, arith, length-append}
 use Rattle.std.specs.Prelude.{Ok, Err, slice_get, if◌then◌else◌}
 use Rattle.std.specs.List.{list_all}
 use Rattle.std.proofs.lemmas.Bool.{and_parts}
@@ -9,18 +9,15 @@ use Rattle.source_meaning.specs.declared.linked.LExpr.{LExpr}
 use Rattle.source_meaning.specs.declared.linked.LStmt.{LStmt}
 use Rattle.source_meaning.specs.declared.linked.LStmt.TheOpen.{LStmt-F}
 use Rattle.source_meaning.specs.declared.linked.LStmt.TheViews.{roll-LStmt}
-use Rattle.source_meaning.specs.declared.linked.LStmt.TheFolds.{map-LStmt, fold-LStmt, fold-roll-LStmt, ind-LStmt}
-use Rattle.source_meaning.specs.declared.trace.WrongKind.{WrongKind}
+use Rattle.source_meaning.specs.declared.linked.LStmt.TheFolds.{map-LStmt, fold-roll-LStmt, ind-LStmt}
 use Rattle.source_meaning.specs.declared.trace.End.TheVariants.{Done, Spent, Deep, Wrong}
-use Rattle.source_meaning.specs.Meaning.{Store, Run, Going, Over, number, truth, value, with_spot, given, next, set, write, read, in_order, paid, does, run_step, run_one, Found}
-use Rattle.source_meaning.specs.Formed.{Kind, Number, Truth, kind_at, kind_of_scalar, kind_of, same_kind, fits_step, fits}
-use Rattle.stack_machine.specs.declared.image.Cell.{Cell}
+use Rattle.source_meaning.specs.Meaning.{Store, Run, Going, Over, number, truth, value, given, next, set, write, read, in_order, paid, run_step, run_one, Found}
+use Rattle.source_meaning.specs.Formed.{Kind, Number, Truth, kind_at, kind_of, same_kind, fits_step, fits}
 use Rattle.stack_machine.specs.declared.image.Instr.{Instr}
 use Rattle.stack_machine.specs.declared.image.Instr.TheVariants as instr
 use Rattle.stack_machine.specs.declared.image.Image.{Image}
 use Rattle.stack_machine.specs.Machine.{Frame, State, settled}
 use Rattle.stack_machine.specs.Code.{expr_code, joined, when_code, choice_code, if_code, stmt_step, stmt_code}
-use Rattle.stack_machine.specs.Running.{cell_of_scalar}
 use Rattle.stack_machine.proofs.Going.{go}
 use Rattle.stack_machine.proofs.Expressions.{HasAt, has_front, has_back, Fit, cells, store_at, stands, frame, one, then_one, then_more, Gives, expr_runs}
 
@@ -236,9 +233,9 @@ module _ (image : Image) (kinds : List (Option Kind)) where
       let c = expr_code e in
       let len : pc + length c + 1 ≡ pc + length (c ++ instr.Store p ∷ []) = omega (arith, length-append c (instr.Store p ∷ [])) in
       pay_run s s.fuel pc _ _ (λ n.
-        ends_at (at pc s) _ _ (suc n) _ len
-        (set_run (record s { fuel = n }) pc (length c) p k.kind (value s e) fit k.left (has_back image.code pc c (instr.Store p ∷ []) has).0
-        (expr_runs image kinds s fit e pc [] k.kind k.right (has_front image.code pc c (instr.Store p ∷ []) has))))
+      ends_at (at pc s) _ _ (suc n) _ len
+      (set_run (record s { fuel = n }) pc (length c) p k.kind (value s e) fit k.left (has_back image.code pc c (instr.Store p ∷ []) has).0
+      (expr_runs image kinds s fit e pc [] k.kind k.right (has_front image.code pc c (instr.Store p ∷ []) has))))
   layer (LStmt-F.LRead p) s pc hf fit has =
       let k = same_known (kind_at kinds p) (Some Number) hf in
       pay_run s s.fuel pc _ _ (λ n. read_run s.locals s.input s.output n pc p fit (k.left ∙ sym k.right) has.0)
@@ -247,9 +244,9 @@ module _ (image : Image) (kinds : List (Option Kind)) where
       let c = expr_code e in
       let len : pc + length c + 1 ≡ pc + length (c ++ instr.WriteOut ∷ []) = omega (arith, length-append c (instr.WriteOut ∷ [])) in
       pay_run s s.fuel pc _ _ (λ n.
-        ends_at (at pc s) _ _ (suc n) _ len
-        (write_run (record s { fuel = n }) pc (length c) (value s e) fit (has_back image.code pc c (instr.WriteOut ∷ []) has).0
-        (expr_runs image kinds s fit e pc [] Number (k.left ∙ sym k.right) (has_front image.code pc c (instr.WriteOut ∷ []) has))))
+      ends_at (at pc s) _ _ (suc n) _ len
+      (write_run (record s { fuel = n }) pc (length c) (value s e) fit (has_back image.code pc c (instr.WriteOut ∷ []) has).0
+      (expr_runs image kinds s fit e pc [] Number (k.left ∙ sym k.right) (has_front image.code pc c (instr.WriteOut ∷ []) has))))
   layer (LStmt-F.LIf g a b) s pc hf fit has =
       let outer = and_parts (same_kind (kind_of kinds g) (Some Truth) && list_all (λ b. b) (map (fits kinds) (bare a))) (list_all (λ b. b) (map (fits kinds) (bare b))) hf in
       let inner = and_parts (same_kind (kind_of kinds g) (Some Truth)) (list_all (λ b. b) (map (fits kinds) (bare a))) outer.0 in

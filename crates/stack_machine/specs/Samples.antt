@@ -1,5 +1,5 @@
 -- The programs that the tests run.
-use Rattle.std.specs.Prelude.{◌≡◌, ℕ, pos, true, false, codes, List, [], ◌∷◌, None}
+use Rattle.std.specs.Prelude.{ℕ, pos, true, false, codes, List, [], ◌∷◌, None}
 use Rattle.source_meaning.specs.declared.linked.Scalar.{Scalar}
 use Rattle.source_meaning.specs.declared.linked.Spot.TheVariants.{Local}
 use Rattle.source_meaning.specs.declared.linked.TypeForm.TheVariants as form

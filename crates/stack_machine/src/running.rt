@@ -211,7 +211,14 @@ impl Running {
                 Ok(self.onward())
             }
             Instr::WriteOut => Ok(self.write(image, input)),
-            Instr::Add | Instr::Sub | Instr::Eq | Instr::Less | Instr::LessEq | Instr::Not | Instr::And | Instr::Or => {
+            Instr::Add
+            | Instr::Sub
+            | Instr::Eq
+            | Instr::Less
+            | Instr::LessEq
+            | Instr::Not
+            | Instr::And
+            | Instr::Or => {
                 operators::operate(&mut self.operands, instr)?;
                 Ok(self.onward())
             }

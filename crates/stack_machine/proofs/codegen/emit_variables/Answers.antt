@@ -1,4 +1,4 @@
-use Rattle.std.proofs.Common.{◌<◌, [], ◌∷◌, ◌∙◌, ap, arith, get_or, length}
+use Rattle.std.proofs.Common.{◌<◌, [], ◌∷◌, ap, arith, get_or, length}
 use Rattle.std.proofs.lemmas.Result.{err_from_is_err_and}
 use Rattle.source_meaning.specs.declared.linked.Spot.TheVariants.{Local}
 use Rattle.stack_machine.specs.declared.image.Instr.TheVariants.{Init}
