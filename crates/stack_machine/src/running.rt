@@ -104,7 +104,7 @@ impl Running {
         Effect::Quiet
     }
 
-    // Takes an operand and goes on, past the next instructions where it is false.
+    // Takes an operand and goes on at an address where it is false. What it does is the same for every image and input.
     fn branch(&mut self, to: u32) -> Effect
         requires room { self.old.place + 1 < 2 ^ 64 }
         requires can { (image : Image) × (input : List ℤ) × CanAct image input self.old (Instr.JumpFalse to) }
@@ -119,7 +119,7 @@ impl Running {
         }
     }
 
-    // Takes an operand and puts it at a place.
+    // Takes an operand and puts it at a place, for every image and input.
     fn settle(&mut self, spot: Spot) -> Effect
         requires room { self.old.place + 1 < 2 ^ 64 }
         requires can { (image : Image) × (input : List ℤ) × CanAct image input self.old (Instr.Store spot) }
@@ -133,7 +133,7 @@ impl Running {
         self.onward()
     }
 
-    // Makes a local with a type.
+    // Makes a local with a type, for every image with these types.
     fn make(&mut self, types: &Items<TypeForm>, spot: Spot, number: u32) -> Effect
         requires room { self.old.place + 1 < 2 ^ 64 }
         requires can { (image : Image) × (input : List ℤ) × (image.types ≡ types.now) × CanAct image input self.old (Instr.Init spot number) }
@@ -159,7 +159,7 @@ impl Running {
         self.onward()
     }
 
-    // Takes an operand, which is written.
+    // Takes an operand, which is written, for every image and input.
     fn write(&mut self) -> Effect
         requires room { self.old.place + 1 < 2 ^ 64 }
         requires can { (image : Image) × (input : List ℤ) × CanAct image input self.old Instr.WriteOut }
