@@ -1,5 +1,5 @@
 -- How the machine goes on from a state.
-use Rattle.std.proofs.Common.{◌≡◌, ℕ, zero, suc, ◌+◌, ◌-◌, ◌≤◌, ℤ, pos, ◌+ℤ◌, ◌-ℤ◌, List, [], ◌∷◌, ◌++◌, length, Bool, true, false, Option, Some, None, refl, sym, ap, ◌∙◌, subst, arith, append_assoc}
+use Rattle.std.proofs.Common.{◌≡◌, ℕ, zero, suc, ◌+◌, ◌-◌, ◌≤◌, ℤ, List, [], ◌∷◌, ◌++◌, true, false, Option, Some, None, refl, sym, ap, ◌∙◌, subst, arith, append_assoc}
 use Rattle.std.specs.Prelude.{IsSome, option_and_then, slice_get}
 use Rattle.std.proofs.lemmas.List.{append-nil}
 use Rattle.source_meaning.specs.declared.linked.Scalar.{Scalar}
@@ -8,7 +8,7 @@ use Rattle.stack_machine.specs.declared.image.Cell.{Cell}
 use Rattle.stack_machine.specs.declared.image.Instr.{Instr}
 use Rattle.stack_machine.specs.declared.image.Instr.TheVariants as instr
 use Rattle.stack_machine.specs.declared.image.Image.{Image}
-use Rattle.stack_machine.specs.Machine.{Frame, State, act, step_of, step, start, after, moved, settled, jumped, stored, branched, read_in, written, with_operands, pushed_scalar, scalar_of, cell_at, replaced, initial_cell, number_cell}
+use Rattle.stack_machine.specs.Machine.{Frame, State, act, step_of, step, after, moved, settled, jumped, stored, branched, read_in, written, with_operands, pushed_scalar, scalar_of, cell_at, replaced, initial_cell, number_cell}
 use Rattle.stack_machine.specs.Simulation.{IsFront}
 
 -- the state after so many steps from this one

@@ -1,5 +1,5 @@
 -- What a sink got of a run.
-use Rattle.std.proofs.Common.{◌≡◌, ◌≢◌, ℕ, suc, ◌+◌, ◌-◌, ◌<◌, ◌≤◌, ℤ, List, [], ◌∷◌, ◌++◌, length, take, drop, Option, Some, None, refl, sym, ap, ◌∙◌, subst, arith, append_assoc}
+use Rattle.std.proofs.Common.{◌≡◌, ◌≢◌, ℕ, suc, ◌+◌, ◌<◌, ◌≤◌, ℤ, List, [], ◌∷◌, ◌++◌, length, take, drop, Option, Some, None, refl, sym, ap, ◌∙◌, subst, arith, append_assoc}
 use Rattle.std.specs.Prelude.{IsSome, IsSomeAnd, OnErr, Result, Ok, Err, option_and_then}
 use Rattle.std.specs.Fmt.{signed_decimal}
 use Rattle.std.proofs.lemmas.List.{append-nil, take-append-drop}
@@ -10,11 +10,10 @@ use Rattle.stack_machine.specs.declared.image.Stop.TheVariants.{Halted, StepsSpe
 use Rattle.stack_machine.specs.declared.running.Running.{Running}
 use Rattle.stack_machine.specs.declared.running.Effect.{Effect}
 use Rattle.stack_machine.specs.declared.running.Effect.TheVariants.{Quiet, Wrote, Returned}
-use Rattle.stack_machine.specs.Machine.{Frame, State, step_of, step, after}
+use Rattle.stack_machine.specs.Machine.{State, step_of, step, after}
 use Rattle.stack_machine.specs.Lines.{line, lines}
 use Rattle.stack_machine.specs.Runs.{NeverStuck, Stopped}
 use Rattle.stack_machine.specs.Running.{frame_of, state_after, text_of, CanStep, Steps, Begins}
-use Rattle.stack_machine.specs.Simulation.{IsFront}
 use Rattle.stack_machine.proofs.Going.{halted_stays_lem, step_after_none, after_front}
 
 pub grew_refl : (held : Option (List ℕ)) → Grew held held []

@@ -1,6 +1,5 @@
 -- The code of a linked program.
-use Rattle.std.specs.Prelude.{ℕ, suc, pos, ◌+◌, false, List, [], ◌∷◌, ◌++◌, length, map, Option, Some, None}
-use Rattle.source_meaning.specs.declared.linked.Scalar.{Scalar}
+use Rattle.std.specs.Prelude.{ℕ, suc, ◌+◌, false, List, [], ◌∷◌, ◌++◌, length, map}
 use Rattle.source_meaning.specs.declared.linked.Spot.TheVariants.{Local}
 use Rattle.source_meaning.specs.declared.linked.BinOp.{BinOp}
 use Rattle.source_meaning.specs.declared.linked.BinOp.TheVariants.{Add, Sub, Eq, NotEq, Less, LessEq, Greater, GreaterEq, And, Or}
@@ -15,7 +14,6 @@ use Rattle.source_meaning.specs.declared.linked.Linked.{Linked}
 use Rattle.stack_machine.specs.declared.image.Instr.{Instr}
 use Rattle.stack_machine.specs.declared.image.Instr.TheVariants as instr
 use Rattle.stack_machine.specs.declared.image.Image.{Image}
-use Rattle.stack_machine.specs.declared.image.ProcInfo.{ProcInfo}
 
 abbrev pub op_code : BinOp → List Instr
 op_code Add = instr.Add ∷ []

@@ -4,3 +4,5 @@ pub mod Runs
 pub mod Code
 pub mod Simulation
 pub mod Running
+pub mod Refusal
+pub mod Samples

@@ -4,7 +4,7 @@ use Rattle.edge_io.specs.Held.{Grew, GrewByPrefix}
 use Rattle.stack_machine.specs.declared.image.Image.{Image}
 use Rattle.stack_machine.specs.declared.image.Stop.{Stop}
 use Rattle.stack_machine.specs.declared.image.Stop.TheVariants.{Halted, StepsSpent, SinkFault, NoMemory}
-use Rattle.stack_machine.specs.Machine.{State, after}
+use Rattle.stack_machine.specs.Machine.{after}
 use Rattle.stack_machine.specs.Lines.{lines}
 
 -- Main is a procedure without parameters and without a result.

@@ -1,8 +1,7 @@
 -- That the code of a program does what the program means.
-use Rattle.std.specs.Prelude.{◌≡◌, ◌≢◌, ℕ, ℤ, ◌+◌, ◌*◌, ◌↔◌, List, [], ◌++◌, Option, Some, None, IsSome, IsSomeAnd}
+use Rattle.std.specs.Prelude.{◌≡◌, ◌≢◌, ℕ, ℤ, ◌*◌, List, [], ◌++◌, Some, IsSomeAnd}
 use Rattle.source_meaning.specs.declared.linked.Proc.{Proc}
 use Rattle.source_meaning.specs.declared.linked.Linked.{Linked}
-use Rattle.source_meaning.specs.declared.trace.End.{End}
 use Rattle.source_meaning.specs.declared.trace.End.TheVariants.{Done, Wrong}
 use Rattle.source_meaning.specs.declared.trace.WrongKind.{WrongKind}
 use Rattle.source_meaning.specs.Meaning.{Store, run_of}

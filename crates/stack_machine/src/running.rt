@@ -1,8 +1,9 @@
 //! The running frame, and what one instruction does to it.
 
-ghost use Rattle.std.specs.Prelude.{◌≡◌, ◌<◌, ◌^◌, ◌+◌, ◌≤◌, IfOk, IsSome, OnOk, Some, drop, length, pos, slice_get};
+ghost use Rattle.std.specs.Prelude.{◌≡◌, ◌<◌, ◌^◌, ◌+◌, ◌≤◌, IfOk, IsSome, List, OnOk, Some, drop, length, pos, slice_get, ℤ};
 ghost use Rattle.source_meaning.specs.declared.linked.Scalar.{Scalar};
 ghost use Rattle.stack_machine.specs.declared.image.Cell.{Cell};
+ghost use Rattle.stack_machine.specs.declared.image.Image.{Image};
 ghost use Rattle.stack_machine.specs.declared.image.Instr.{Instr};
 ghost use Rattle.stack_machine.specs.declared.running.Effect.{Effect};
 ghost use Rattle.stack_machine.specs.Machine.{cell_at, initial_cell, replaced, scalar_of, with_cell};
@@ -103,11 +104,11 @@ impl Running {
         Effect::Quiet
     }
 
-    // Takes an operand and goes on, past the next instructions where it is false.
-    fn branch(&mut self, image: &Image, input: &[i64], to: u32) -> Effect
+    // Takes an operand and goes on at an address where it is false. What it does is the same for every image and input.
+    fn branch(&mut self, to: u32) -> Effect
         requires room { self.old.place + 1 < 2 ^ 64 }
-        requires can { CanAct image.now input.now self.old (Instr.JumpFalse to) }
-        ensures acts { Acts image.now input.now self.old self.new (Instr.JumpFalse to) result }
+        requires can { (image : Image) × (input : List ℤ) × CanAct image input self.old (Instr.JumpFalse to) }
+        ensures acts { (image : Image) (input : List ℤ) → CanAct image input self.old (Instr.JumpFalse to) → Acts image input self.old self.new (Instr.JumpFalse to) result }
         ensures taken { self.new.taken ≡ self.old.taken }
     {
         if operators::truth(&mut self.operands) {
@@ -118,11 +119,11 @@ impl Running {
         }
     }
 
-    // Takes an operand and puts it at a place.
-    fn settle(&mut self, image: &Image, input: &[i64], spot: Spot) -> Effect
+    // Takes an operand and puts it at a place, for every image and input.
+    fn settle(&mut self, spot: Spot) -> Effect
         requires room { self.old.place + 1 < 2 ^ 64 }
-        requires can { CanAct image.now input.now self.old (Instr.Store spot) }
-        ensures acts { Acts image.now input.now self.old self.new (Instr.Store spot) result }
+        requires can { (image : Image) × (input : List ℤ) × CanAct image input self.old (Instr.Store spot) }
+        ensures acts { (image : Image) (input : List ℤ) → CanAct image input self.old (Instr.Store spot) → Acts image input self.old self.new (Instr.Store spot) result }
         ensures taken { self.new.taken ≡ self.old.taken }
     {
         let Some(scalar) = self.operands.pop() else {
@@ -132,22 +133,22 @@ impl Running {
         self.onward()
     }
 
-    // Makes a local with a type.
-    fn make(&mut self, image: &Image, input: &[i64], spot: Spot, number: u32) -> Effect
+    // Makes a local with a type, for every image with these types.
+    fn make(&mut self, types: &Items<TypeForm>, spot: Spot, number: u32) -> Effect
         requires room { self.old.place + 1 < 2 ^ 64 }
-        requires can { CanAct image.now input.now self.old (Instr.Init spot number) }
-        ensures acts { Acts image.now input.now self.old self.new (Instr.Init spot number) result }
+        requires can { (image : Image) × (input : List ℤ) × (image.types ≡ types.now) × CanAct image input self.old (Instr.Init spot number) }
+        ensures acts { (image : Image) (input : List ℤ) → image.types ≡ types.now → CanAct image input self.old (Instr.Init spot number) → Acts image input self.old self.new (Instr.Init spot number) result }
         ensures taken { self.new.taken ≡ self.old.taken }
     {
-        put(&mut self.locals, spot, initial(&image.types, number));
+        put(&mut self.locals, spot, initial(types, number));
         self.onward()
     }
 
     // Takes a number of the input and puts it at a place.
-    fn read(&mut self, image: &Image, input: &[i64], spot: Spot) -> Effect
+    fn read(&mut self, input: &[i64], spot: Spot) -> Effect
         requires room { self.old.place + 1 < 2 ^ 64 }
-        requires can { CanAct image.now input.now self.old (Instr.ReadIn spot) }
-        ensures acts { Acts image.now input.now self.old self.new (Instr.ReadIn spot) result }
+        requires can { (image : Image) × CanAct image input.now self.old (Instr.ReadIn spot) }
+        ensures acts { (image : Image) → CanAct image input.now self.old (Instr.ReadIn spot) → Acts image input.now self.old self.new (Instr.ReadIn spot) result }
         ensures taken { self.new.taken ≤ length input.now }
     {
         let Some(number) = input.get(self.taken) else {
@@ -158,11 +159,11 @@ impl Running {
         self.onward()
     }
 
-    // Takes an operand, which is written.
-    fn write(&mut self, image: &Image, input: &[i64]) -> Effect
+    // Takes an operand, which is written, for every image and input.
+    fn write(&mut self) -> Effect
         requires room { self.old.place + 1 < 2 ^ 64 }
-        requires can { CanAct image.now input.now self.old Instr.WriteOut }
-        ensures acts { Acts image.now input.now self.old self.new Instr.WriteOut result }
+        requires can { (image : Image) × (input : List ℤ) × CanAct image input self.old Instr.WriteOut }
+        ensures acts { (image : Image) (input : List ℤ) → CanAct image input self.old Instr.WriteOut → Acts image input self.old self.new Instr.WriteOut result }
         ensures taken { self.new.taken ≡ self.old.taken }
     {
         let number = operators::number(&mut self.operands);
@@ -196,22 +197,29 @@ impl Running {
                 self.operands.push(scalar)?;
                 Ok(self.onward())
             }
-            Instr::Store(spot) => Ok(self.settle(image, input, spot)),
+            Instr::Store(spot) => Ok(self.settle(spot)),
             Instr::Jump(to) => {
                 self.place = to as usize;
                 Ok(Effect::Quiet)
             }
-            Instr::JumpFalse(to) => Ok(self.branch(image, input, to)),
-            Instr::Init(spot, number) => Ok(self.make(image, input, spot, number)),
+            Instr::JumpFalse(to) => Ok(self.branch(to)),
+            Instr::Init(spot, number) => Ok(self.make(&image.types, spot, number)),
             Instr::Return => Ok(Effect::Returned),
-            Instr::ReadIn(spot) => Ok(self.read(image, input, spot)),
+            Instr::ReadIn(spot) => Ok(self.read(input, spot)),
             Instr::Remaining => {
                 let left = self.remaining(input);
                 self.operands.push(Scalar::Int(left))?;
                 Ok(self.onward())
             }
-            Instr::WriteOut => Ok(self.write(image, input)),
-            Instr::Add | Instr::Sub | Instr::Eq | Instr::Less | Instr::LessEq | Instr::Not | Instr::And | Instr::Or => {
+            Instr::WriteOut => Ok(self.write()),
+            Instr::Add
+            | Instr::Sub
+            | Instr::Eq
+            | Instr::Less
+            | Instr::LessEq
+            | Instr::Not
+            | Instr::And
+            | Instr::Or => {
                 operators::operate(&mut self.operands, instr)?;
                 Ok(self.onward())
             }
