@@ -1,16 +1,15 @@
 -- What has been read where the automaton stands, and how it goes on to a module.
-use Rattle.std.proofs.Common.{◌≡◌, ◌≢◌, ℕ, suc, ℤ, pos, ◌+◌, ◌<◌, ◌≤◌, ◌⊎◌, Bool, true, false, cond, List, [], ◌∷◌, ◌++◌, length, Option, Some, None, codes, refl, sym, ap, ◌∙◌, subst, inl, inr, ⊎_elim, append_assoc, append-nil, length-append, arith}
-use Rattle.std.proofs.lemmas.Bool.{cases_Bool, true≢false, cases_lt}
+use Rattle.std.proofs.Common.{◌≡◌, ◌≢◌, ℕ, suc, ℤ, ◌<◌, ◌≤◌, ◌⊎◌, Bool, true, false, cond, List, [], ◌∷◌, ◌++◌, length, Option, Some, None, codes, refl, sym, ap, ◌∙◌, subst, inl, inr, ⊎_elim, append_assoc, append-nil, length-append, arith}
+use Rattle.std.proofs.lemmas.Bool.{true≢false}
 use Rattle.std.specs.Prelude.{nat_lt, IsTrue}
 use Rattle.res_lexer.specs.declared.token.TokenKind.{TokenKind}
 use Rattle.res_lexer.specs.declared.token.TokenKind.TheVariants as kind
 use Rattle.res_lexer.specs.Tokens.{same_bytes}
 use Rattle.resolve_cli.specs.declared.module.Literal.{Literal}
-use Rattle.resolve_cli.specs.declared.module.Form.{Form}
 use Rattle.resolve_cli.specs.Reserved.{is_free}
-use Rattle.resolve_cli.specs.Form.{IsForm, IsSmall, IsModule, IsBegun, IsFull, MayStand, begun, full, kinds_of, head_kinds, chain_kinds, operands_kinds, operand_kinds, signed, middle_kinds, write_kinds, writes_kinds, tail_kinds, most, word, semicolon, comma, opening, closing, colon, equals, dash, less, greater}
+use Rattle.resolve_cli.specs.Form.{kinds_of, head_kinds, chain_kinds, operands_kinds, operand_kinds, middle_kinds, write_kinds, writes_kinds, most, word, semicolon, opening, dash, less, greater}
 use Rattle.resolve_cli.specs.Scan.{Names, Goal, to_name, to_input, to_output, to_claim, to_operand, to_more, to_again, to_body, to_number, to_end, State, at, same_kind, literal, form_of, to_main, to_second, to_ensures, to_procedure, to_close, to_last, exactly, goal_next, next, start}
-use Rattle.resolve_cli.proofs.Run.{same_from_test, same_as_itself, kind_from_test, test_lt, run}
+use Rattle.resolve_cli.proofs.Run.{same_as_itself, kind_from_test, test_lt, run}
 
 abbrev minus_kinds : Bool → List TokenKind
 minus_kinds false = []

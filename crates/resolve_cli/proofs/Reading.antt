@@ -1,7 +1,6 @@
 -- The places of tokens, and what the tests of the reader say of the scan there.
-use Rattle.std.proofs.Common.{◌≡◌, ℕ, zero, suc, ◌+◌, ◌-◌, ◌<◌, ◌≤◌, ◌↔◌, ◌⊎◌, ⊎_elim, Bool, true, false, cond, ℤ, pos, ◌≤ℤ◌, List, [], ◌∷◌, ◌++◌, length, map, take, drop, get_or, Option, Some, None, refl, sym, ap, ◌∙◌, subst, add-one, arith, drop-drop, drop-cons}
+use Rattle.std.proofs.Common.{◌≡◌, ℕ, zero, suc, ◌+◌, ◌-◌, ◌<◌, ◌≤◌, ◌↔◌, ⊎_elim, Bool, true, false, cond, ℤ, pos, ◌≤ℤ◌, List, [], ◌∷◌, ◌++◌, length, map, drop, get_or, Option, Some, None, refl, sym, ap, ◌∙◌, subst, add-one, arith, drop-drop}
 use Rattle.std.proofs.lemmas.Bool.{cases_Bool, true≢false, false_from_ne_true}
-use Rattle.std.proofs.lemmas.Bool.Decides.{nat_tests}
 use Rattle.std.proofs.lemmas.List.Elements.{All-cons, All-nil}
 use Rattle.std.specs.List.{All}
 use Rattle.std.specs.Prelude.{nat_lt, codes, slice_get}
@@ -13,11 +12,11 @@ use Rattle.res_lexer.specs.Tokens.{AreTokens, Begin, Means, same_bytes}
 use Rattle.resolve_cli.specs.declared.reader.Fixed.{Fixed}
 use Rattle.resolve_cli.specs.declared.reader.ReadError.{ReadError}
 use Rattle.resolve_cli.specs.declared.reader.ReadError.TheVariants as error
-use Rattle.resolve_cli.specs.Form.{kinds, at_of, IsSmallToken, word, IsSmallLiteral, dash, greater, literal_kinds, signed, less, opening, semicolon, most, IsModule, IsRefusedAt}
+use Rattle.resolve_cli.specs.Form.{kinds, at_of, IsSmallToken, word, dash, greater, literal_kinds, signed, less, opening, most}
 use Rattle.resolve_cli.specs.declared.module.Literal.{Literal}
 use Rattle.resolve_cli.specs.Reserved.{is_free}
 use Rattle.resolve_cli.specs.Scan.{Names, Goal, to_name, to_input, to_output, to_main, to_second, to_ensures, to_claim, to_operand, to_more, to_again, to_body, to_number, to_end, State, at, same_kind, literal, to_close, to_last, to_procedure, Outcome, accepted, stopped, form_of, exactly, scan, scan_from}
-use Rattle.resolve_cli.specs.Reader.{IsStop, begins_with, fixed_kind, first_digits, digits_in, first_name, LacksLiteral, IsLacking}
+use Rattle.resolve_cli.specs.Reader.{IsStop, begins_with, fixed_kind, first_digits, first_name, LacksLiteral, IsLacking}
 use Rattle.resolve_cli.proofs.Run.{lt_test, kind_itself, kind_from_test, same_from_test, same_as_itself}
 
 next_drop : (ts : List Token) (i : ℕ) (t : Token) → i < length ts → t ≡ get_or ts i t → drop i (kinds ts) ≡ t.kind ∷ drop (suc i) (kinds ts)

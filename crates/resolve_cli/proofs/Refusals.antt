@@ -1,5 +1,5 @@
 -- Where the automaton accepts, the tokens are a module; where it stops, they are refused.
-use Rattle.std.proofs.Common.{◌≡◌, ◌≢◌, ℕ, zero, suc, ℤ, pos, ◌+◌, ◌<◌, ◌≤◌, ◌⊎◌, Bool, true, false, cond, List, [], ◌∷◌, ◌++◌, length, take, drop, Option, Some, None, codes, refl, sym, ap, ◌∙◌, subst, inl, inr, ⊎_elim, append_assoc, append-nil, length-append, take-append-drop, add-one, arith}
+use Rattle.std.proofs.Common.{◌≡◌, ◌≢◌, ℕ, zero, suc, pos, ◌+◌, ◌<◌, ◌≤◌, Bool, false, List, [], ◌∷◌, ◌++◌, length, take, drop, Option, Some, None, codes, refl, sym, ap, ◌∙◌, subst, ⊎_elim, append_assoc, append-nil, length-append, take-append-drop, add-one, arith}
 use Rattle.std.proofs.lemmas.Bool.{cases_Bool, cases_lt, true≢false}
 use Rattle.std.proofs.lemmas.Bool.Decides.{nat_tests}
 use Rattle.std.specs.Prelude.{nat_lt, IsTrue}
@@ -12,10 +12,10 @@ use Rattle.resolve_cli.specs.declared.reader.ReadError.{ReadError}
 use Rattle.resolve_cli.specs.declared.reader.ReadError.TheVariants as error
 use Rattle.resolve_cli.specs.Reader.{IsStop, IsReadRefusal}
 use Rattle.resolve_cli.specs.Reserved.{is_free}
-use Rattle.resolve_cli.specs.Form.{IsForm, IsSmall, IsModule, IsBegun, IsFull, MayStand, begun, full, IsRefusedAt, kinds_of, head_kinds, chain_kinds, middle_kinds, tail_kinds, most, word, semicolon}
+use Rattle.resolve_cli.specs.Form.{IsForm, IsSmall, IsModule, MayStand, begun, full, IsRefusedAt, kinds_of, head_kinds, chain_kinds, middle_kinds, tail_kinds, most, word, semicolon}
 use Rattle.resolve_cli.specs.Scan.{Names, Goal, to_name, to_input, to_output, to_claim, to_operand, to_more, to_again, to_body, to_number, to_end, State, at, literal, form_of, next, start, Outcome, accepted, stopped, goal_end, at_end, scan}
-use Rattle.resolve_cli.proofs.Run.{same_from_test, same_as_itself, test_lt, run, run_step, run_stop, run_less, run_module, run_full, names_of}
-use Rattle.resolve_cli.proofs.Reached.{history, AreNames, IsGood, Reached, operand_more, more_body, again_operand, number_body, body_end, reached, begins}
+use Rattle.resolve_cli.proofs.Run.{test_lt, run, run_step, run_stop, run_less, run_module, run_full, names_of}
+use Rattle.resolve_cli.proofs.Reached.{history, AreNames, IsGood, operand_more, more_body, again_operand, number_body, body_end, reached, begins}
 
 -- ---- what may stand
 

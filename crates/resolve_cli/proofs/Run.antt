@@ -1,8 +1,8 @@
 -- What the automaton does with the tokens of a module: it takes them all.
-use Rattle.std.proofs.Common.{◌≡◌, ◌≢◌, ℕ, suc, ℤ, ◌+◌, ◌<◌, ◌≤◌, ◌⊎◌, Bool, true, false, cond, eqb, List, [], ◌∷◌, ◌++◌, length, Option, Some, None, codes, refl, sym, ap, ◌∙◌, subst, inl, inr, ⊎_elim, append_assoc, append-nil, length-append, arith}
-use Rattle.std.proofs.lemmas.Bool.{cases_Bool, and_parts, and_from, eqb-true, eq-eqb, true≢false, false_from_ne_true}
+use Rattle.std.proofs.Common.{◌≡◌, ℕ, ℤ, ◌+◌, ◌<◌, ◌≤◌, Bool, true, false, cond, eqb, List, [], ◌∷◌, ◌++◌, length, Option, Some, None, codes, refl, sym, ap, ◌∙◌, subst, append_assoc, append-nil, length-append, arith}
+use Rattle.std.proofs.lemmas.Bool.{and_parts, and_from, eqb-true, eq-eqb, true≢false, false_from_ne_true}
 use Rattle.std.proofs.lemmas.Bool.Decides.{nat_tests, Decides-int_eq}
-use Rattle.std.specs.Prelude.{nat_lt, nat_eq, IsTrue}
+use Rattle.std.specs.Prelude.{nat_lt}
 use Rattle.std.specs.Ordering.{int_eq}
 use Rattle.res_lexer.specs.declared.token.TokenKind.{TokenKind}
 use Rattle.res_lexer.specs.declared.token.TokenKind.TheVariants as kind
@@ -10,8 +10,8 @@ use Rattle.res_lexer.specs.Tokens.{same_bytes}
 use Rattle.resolve_cli.specs.declared.module.Literal.{Literal}
 use Rattle.resolve_cli.specs.declared.module.Form.{Form}
 use Rattle.resolve_cli.specs.Reserved.{is_free}
-use Rattle.resolve_cli.specs.Form.{IsForm, IsSmall, IsModule, kinds_of, head_kinds, chain_kinds, operands_kinds, operand_kinds, signed, middle_kinds, write_kinds, writes_kinds, tail_kinds, most, word, semicolon, comma, opening, closing, colon, equals, dash, less, greater}
-use Rattle.resolve_cli.specs.Scan.{Names, Goal, to_name, to_input, to_output, to_claim, to_operand, to_more, to_again, to_body, to_number, to_end, State, at, same_kind, literal, to_main, to_second, to_ensures, to_procedure, to_close, to_last, exactly, name_next, input_next, output_next, again_next, body_next, next, start}
+use Rattle.resolve_cli.specs.Form.{IsForm, IsSmall, kinds_of, head_kinds, chain_kinds, operands_kinds, operand_kinds, signed, middle_kinds, write_kinds, writes_kinds, tail_kinds, most, word, opening, less, greater}
+use Rattle.resolve_cli.specs.Scan.{Names, Goal, to_name, to_input, to_output, to_claim, to_operand, to_more, to_again, to_body, to_number, to_end, State, at, same_kind, literal, to_main, to_second, to_ensures, to_close, to_last, exactly, name_next, input_next, output_next, again_next, body_next, next, start}
 
 pub same_from_test : (xs ys : List ℕ) → same_bytes xs ys ≡ true → xs ≡ ys
 same_from_test [] [] h = refl

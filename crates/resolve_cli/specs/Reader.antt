@@ -1,5 +1,5 @@
 -- What the parts of the reader of modules answer.
-use Rattle.std.specs.Prelude.{◌≡◌, ℕ, ◌+◌, ◌<◌, pos, ℤ, Bool, true, false, cond, List, [], ◌∷◌, ◌++◌, Option, Some, None, codes, drop}
+use Rattle.std.specs.Prelude.{◌≡◌, ℕ, ℤ, Bool, false, cond, List, [], ◌∷◌, Option, Some, None, codes}
 use Rattle.res_lexer.specs.declared.token.TokenKind.{TokenKind}
 use Rattle.res_lexer.specs.declared.token.TokenKind.TheVariants as kind
 use Rattle.resolve_cli.specs.declared.module.Literal.{Literal}
@@ -9,7 +9,7 @@ use Rattle.resolve_cli.specs.declared.reader.ReadError.{ReadError}
 use Rattle.resolve_cli.specs.declared.reader.ReadError.TheVariants as error
 use Rattle.resolve_cli.specs.Reserved.{is_free}
 use Rattle.resolve_cli.specs.Form.{IsRefusedAt, semicolon, comma, opening, closing, colon, equals, dash, less, greater, word}
-use Rattle.resolve_cli.specs.Scan.{Names, Goal, to_operand, to_number, same_kind, Outcome, stopped, scan}
+use Rattle.resolve_cli.specs.Scan.{Names, to_operand, to_number, same_kind, Outcome, stopped, scan}
 
 -- Why tokens are no module, or want of memory.
 abbrev pub IsReadRefusal : List TokenKind → ReadError → Type 0

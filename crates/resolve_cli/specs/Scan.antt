@@ -1,5 +1,5 @@
 -- The tokens of a module, one after another: what is still wanted, and what the reader builds.
-use Rattle.std.specs.Prelude.{◌≡◌, ℕ, suc, ℤ, ◌<◌, nat_lt, nat_eq, ◌+◌, Bool, true, false, cond, List, [], ◌∷◌, ◌++◌, length, drop, Option, Some, None, codes, Result, Ok, Err, map}
+use Rattle.std.specs.Prelude.{ℕ, ℤ, nat_lt, nat_eq, ◌+◌, Bool, true, false, cond, List, [], ◌∷◌, ◌++◌, length, drop, Option, Some, None, codes}
 use Rattle.std.specs.Ordering.{int_eq}
 use Rattle.res_lexer.specs.declared.token.TokenKind.{TokenKind}
 use Rattle.res_lexer.specs.declared.token.TokenKind.TheVariants as kind

@@ -1,5 +1,5 @@
-use Rattle.resolve_cli.proofs.Reading.{goes_on, halts}
-use Rattle.std.proofs.Common.{sym, ◌∙◌}
+use Rattle.resolve_cli.proofs.Reading.{goes_on}
+use Rattle.std.proofs.Common.{sym}
 use Rattle.resolve_cli.proofs.reader.expect_one.Goals as goal
 use Rattle.resolve_cli.specs.Reader.{fixed_kind}
 use Rattle.resolve_cli.specs.Form.{kinds}

@@ -1,8 +1,7 @@
-use Rattle.std.proofs.Common.{◌≡◌, ◌≤◌, ◌-◌, List, [], length}
+use Rattle.std.proofs.Common.{◌≡◌, ◌≤◌, ◌-◌, [], length}
 use Rattle.std.specs.Prelude.{All}
-use Rattle.resolve_cli.specs.declared.module.Literal.{Literal}
 use Rattle.resolve_cli.specs.Form.{kinds, IsSmallLiteral, most}
-use Rattle.resolve_cli.specs.Scan.{Names, to_more, to_body, scan_from}
+use Rattle.resolve_cli.specs.Scan.{Names, to_more, scan_from}
 use Rattle.resolve_cli.proofs.reader.more_operands.Given as goal
 
 abbrev pub invariant-loop-claimed : goal.invariant-loop-claimed

@@ -1,7 +1,7 @@
-use Rattle.std.proofs.Common.{◌≡◌, ◌+◌, List, [], ◌∷◌, ◌++◌, drop, refl, true, false, sym, ap, ◌∙◌, arith}
+use Rattle.std.proofs.Common.{[], ◌∷◌, ◌++◌, false, ◌∙◌}
 use Rattle.std.proofs.lemmas.Result.{err_from_is_err_and}
-use Rattle.resolve_cli.specs.Form.{kinds, greater, semicolon, comma, closing, equals, word}
-use Rattle.resolve_cli.specs.Scan.{to_operand, to_more, to_number, to_body, to_input, to_output, to_claim, to_name, to_close, to_main, to_second, to_ensures, scan_from}
+use Rattle.resolve_cli.specs.Form.{kinds}
+use Rattle.resolve_cli.specs.Scan.{to_operand, to_more}
 use Rattle.resolve_cli.proofs.Reading as lemma
 use Rattle.resolve_cli.proofs.reader.operand.Goals as goal
 

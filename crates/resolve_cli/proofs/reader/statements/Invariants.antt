@@ -2,7 +2,7 @@ use Rattle.std.proofs.Common.{◌≡◌, ◌≤◌, ◌-◌, List, [], length}
 use Rattle.std.specs.Prelude.{All}
 use Rattle.resolve_cli.specs.declared.module.Literal.{Literal}
 use Rattle.resolve_cli.specs.Form.{kinds, IsSmallLiteral, most}
-use Rattle.resolve_cli.specs.Scan.{Names, to_more, to_body, scan_from}
+use Rattle.resolve_cli.specs.Scan.{Names, to_body, scan_from}
 use Rattle.resolve_cli.proofs.reader.statements.Given as goal
 
 abbrev pub invariant-loop-written : goal.invariant-loop-written
