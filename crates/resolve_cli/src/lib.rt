@@ -10,6 +10,8 @@ mod proving;
 pub mod reader;
 mod running;
 mod status;
+#[cfg(test)]
+mod tests;
 mod texts;
 mod top;
 pub mod words;

@@ -19,7 +19,11 @@ impl Literal {
         requires { IsSmallLiteral self }
         ensures { result ≡ number_of self }
     {
-        if self.minus { 0 - self.digits } else { self.digits }
+        if self.minus {
+            0 - self.digits
+        } else {
+            self.digits
+        }
     }
 }
 

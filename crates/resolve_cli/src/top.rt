@@ -22,7 +22,6 @@ use edge_io::laws::unchanged;
 use edge_io::shelf::{Shelf, ShelfError};
 use edge_io::sink::Sink;
 use edge_io::source::Source;
-
 use math_terms::{Name, NoMemory, equality_is_sameness, substitution_keeps_values};
 use res_lexer::{LexError, Token, one_reading, read_or_refused, tokens};
 use stack_machine::laws::halted_stays;
