@@ -1,28 +1,27 @@
 -- From what a module leaves on out to the answer of the words.
-use Rattle.std.proofs.Common.{◌≡◌, ◌∙◌, sym, ap, refl, subst, ℕ, ◌+◌, ◌-◌, ◌≤◌, ◌<◌, ℤ, Bool, true, false, List, [], ◌∷◌, ◌++◌, length, take, map, Option, Some, None, Result, Ok, Err, MatchResult, inl, inr, replicate, ◌≢◌, arith}
-use Rattle.std.specs.Prelude.{IsTrue, IfOk, ◌⊎◌, slice_get, option_map}
+use Rattle.std.proofs.Common.{◌≡◌, ◌∙◌, sym, ap, refl, subst, ℕ, ◌+◌, ◌-◌, ◌≤◌, ◌<◌, ℤ, Bool, true, false, List, [], length, map, Option, Some, None, Result, Ok, Err, MatchResult, inl, inr, replicate, ◌≢◌, arith}
+use Rattle.std.specs.Prelude.{IsTrue, IfOk, slice_get, option_map}
 use Rattle.std.proofs.Math.ListN.{length-replicate}
 use Rattle.math_terms.specs.declared.name.NoMemory.{NoMemory}
 use Rattle.math_terms.specs.Laws.{SubstitutionKeepsValues, EqualityIsSameness}
-use Rattle.edge_io.specs.Files.{Files, SameFiles, most_bytes}
+use Rattle.edge_io.specs.Files.{Files, most_bytes}
 use Rattle.edge_io.specs.Held.{Grew, GrewByPrefix}
 use Rattle.res_lexer.specs.declared.token.Token.{Token}
 use Rattle.res_lexer.specs.declared.token.TokenKind.{TokenKind}
 use Rattle.res_lexer.specs.declared.token.LexError.{LexError}
 use Rattle.res_lexer.specs.declared.token.LexError.TheVariants as lex
 use Rattle.res_lexer.specs.Tokens.{AreTokens, Refuses, RefusesOrNoMemory}
-use Rattle.stack_machine.specs.Machine.{State, after}
 use Rattle.stack_machine.specs.Lines.{lines}
 use Rattle.resolve_cli.specs.declared.module.Form.{Form}
 use Rattle.resolve_cli.specs.declared.module.Module.{Module}
 use Rattle.resolve_cli.specs.declared.status.Status.{Status}
 use Rattle.resolve_cli.specs.declared.status.Status.TheVariants as status
 use Rattle.resolve_cli.specs.Form.{number_of, kinds, IsModule, IsRefusedAt, IsNotYet, Spells, at_of, place_of}
-use Rattle.resolve_cli.specs.Condition.{condition_of, IsProved, IsProvedForm, IsValidCondition, Allows}
+use Rattle.resolve_cli.specs.Condition.{IsProvedForm, Allows}
 use Rattle.resolve_cli.specs.Texts.{unproved_line, lex_line, not_yet_line}
-use Rattle.resolve_cli.specs.Words.{Word, Command, Run, Other, command, read_words, command_of}
-use Rattle.resolve_cli.specs.Answer.{image_of, most_steps, most_component_bytes, Runs, Halts, IsRefusedWith, HasNoTokens, HasNoForm, HasNoProof, TextAnswers, FileAnswers, Answers, IsRight}
-use Rattle.resolve_cli.specs.Resolves.{Got, GotPrefix, Answered, Saw, SawFile, GotText, GotTextPrefix, TextAnswered, ModuleAnswered, FileAnswered, SomeFile, ShortText, RanRight}
+use Rattle.resolve_cli.specs.Words.{Word, Run, Other, command, read_words, command_of}
+use Rattle.resolve_cli.specs.Answer.{most_steps, most_component_bytes, Runs, Halts, IsRefusedWith, TextAnswers, FileAnswers, IsRight}
+use Rattle.resolve_cli.specs.Resolves.{GotPrefix, Answered, Saw, SawFile, GotText, GotTextPrefix, TextAnswered, ModuleAnswered, FileAnswered, SomeFile, RanRight}
 use Rattle.resolve_cli.proofs.Machine.{over, halted_at, never_stuck}
 use Rattle.resolve_cli.proofs.Ran.{Stays}
 use Rattle.resolve_cli.proofs.Sound.{proved_valid, valid_allows}
@@ -49,17 +48,17 @@ nothing_grew old new out grew = (0, grew)
 
 module _ (laws : Laws) where
   -- a text spells one module
-  same_module : (bytes : List ℕ) (m n : Module) → Spells bytes m → Spells bytes n → m ≡ n
+  pub same_module : (bytes : List ℕ) (m n : Module) → Spells bytes m → Spells bytes n → m ≡ n
   same_module bytes m n (ts, are, is, end) (us, are', is', end') =
       let same = laws.one_reading bytes ts us are are' in
       let forms = laws.one_form (kinds us) m.form n.form (subst (λ vs. IsModule (kinds vs) m.form) same is) is' in
       let ends = end ∙ ap (λ vs. at_of (slice_get vs (length vs - 6))) same ∙ sym end' in
       λ i. record { form = forms i; end_at = ends i }
 
-  no_tokens_spelled : (bytes : List ℕ) (m : Module) (e : LexError) → Spells bytes m → Refuses bytes e → ⊥
+  pub no_tokens_spelled : (bytes : List ℕ) (m : Module) (e : LexError) → Spells bytes m → Refuses bytes e → ⊥
   no_tokens_spelled bytes m e (ts, are, is, end) refuses = laws.read_or_refused bytes ts e are refuses
 
-  not_yet_spelled : (bytes : List ℕ) (m : Module) (at : ℕ) → Spells bytes m → IsNotYet bytes at → ⊥
+  pub not_yet_spelled : (bytes : List ℕ) (m : Module) (at : ℕ) → Spells bytes m → IsNotYet bytes at → ⊥
   not_yet_spelled bytes m at (ts, are, is, end) (us, k, are', refused, place) =
       laws.no_module_refused (kinds ts) m.form k is (subst (λ vs. IsRefusedAt (kinds vs) k) (sym (laws.one_reading bytes ts us are are')) refused)
 
@@ -77,7 +76,7 @@ module _ (laws : Laws) where
       record { state = over (map number_of m.form.written); reached = halted_at laws.stays m.form.written most_steps is.1.written enough_steps; over = refl; output = refl }
 
   -- where a module is proved, its answer is its numbers
-  module_only : (name bytes : List ℕ) (m : Module) → Spells bytes m → IsProvedForm m.form → (s : Status) (out : List ℕ) → TextAnswers name bytes s out → out ≡ lines (map number_of m.form.written)
+  pub module_only : (name bytes : List ℕ) (m : Module) → Spells bytes m → IsProvedForm m.form → (s : Status) (out : List ℕ) → TextAnswers name bytes s out → out ≡ lines (map number_of m.form.written)
   module_only name bytes m spells proved status.Done out (n, written, spells', proved', halts, is) =
       is ∙ ap lines (halts_with n bytes written spells' halts) ∙ ap (λ (k : Module). lines (map number_of k.form.written)) (same_module bytes n m spells' spells)
   module_only name bytes m spells proved (status.Refused line) out (inl (e, refuses, is), none) = absurd (no_tokens_spelled bytes m e spells refuses)
@@ -119,19 +118,19 @@ module _ (laws : Laws) where
       (written, record { spelled = m; spells = spells; valid = valid; never_stuck = never_stuck laws.stays m.form.written; halts = (most_steps, halts.state, halts.reached, halts.over, halts.output); allowed = subst (λ ns. Allows m.form [] [] ns) (sym numbers) allowed }, is)
 
 -- the words say one command
-same_file : (words : List Word) (m n : List ℕ) → command words ≡ Some (Run m) → command words ≡ Some (Run n) → m ≡ n
+pub same_file : (words : List Word) (m n : List ℕ) → command words ≡ Some (Run m) → command words ≡ Some (Run n) → m ≡ n
 same_file words m n e f = let g : Some (Run m) ≡ Some (Run n) = sym e ∙ f in cc
 
-no_words : (words : List Word) (name : List ℕ) → read_words words ≡ None → command words ≡ Some (Run name) → ⊥
+pub no_words : (words : List Word) (name : List ℕ) → read_words words ≡ None → command words ≡ Some (Run name) → ⊥
 no_words words name e f = let g : option_map command_of None ≡ Some (Run name) = ap (option_map command_of) (sym e) ∙ f in absurd (cc)
 
-no_other : (words : List Word) (name : List ℕ) → command words ≡ Some Other → command words ≡ Some (Run name) → ⊥
+pub no_other : (words : List Word) (name : List ℕ) → command words ≡ Some Other → command words ≡ Some (Run name) → ⊥
 no_other words name e f = let g : Some Other ≡ Some (Run name) = sym e ∙ f in absurd (cc)
 
-no_file : (files : Files) (name bytes : List ℕ) → files name ≡ None → files name ≡ Some bytes → ⊥
+pub no_file : (files : Files) (name bytes : List ℕ) → files name ≡ None → files name ≡ Some bytes → ⊥
 no_file files name bytes e f = let g : None ≡ Some bytes = sym e ∙ f in absurd (cc)
 
-same_text : (files : Files) (name a b : List ℕ) → files name ≡ Some a → files name ≡ Some b → a ≡ b
+pub same_text : (files : Files) (name a b : List ℕ) → files name ≡ Some a → files name ≡ Some b → a ≡ b
 same_text files name a b e f = let g : Some a ≡ Some b = sym e ∙ f in cc
 
 module _ (words : List Word) (files : Files) (name bytes : List ℕ) (says : command words ≡ Some (Run name)) (holds : files name ≡ Some bytes) (short : length bytes ≤ most_component_bytes) where

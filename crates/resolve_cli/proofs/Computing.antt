@@ -1,5 +1,5 @@
 -- What a computed truth says.
-use Rattle.std.proofs.Common.{◌≡◌, ◌∙◌, sym, refl, ◌↔◌, Bool, true, false, Option, Some, None, MatchOption, Result, Ok, Err, inl, inr}
+use Rattle.std.proofs.Common.{◌≡◌, refl, ◌↔◌, Bool, true, false, Option, Some, None, MatchOption, Result, Ok, Err, inl, inr}
 use Rattle.std.specs.Prelude.{IsTrue, IfOk, ◌⊎◌}
 use Rattle.math_terms.specs.declared.term.Term.{Term}
 use Rattle.math_terms.specs.Meaning.{Valuation}

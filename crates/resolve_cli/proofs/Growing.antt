@@ -1,5 +1,5 @@
 -- A prefix of a piece is a prefix of a longer one.
-use Rattle.std.proofs.Common.{◌≡◌, ◌∙◌, sym, ℕ, ◌<◌, ◌≤◌, List, ◌++◌, length, take, Option, Result, Ok, Err, ⊎_elim, subst, arith}
+use Rattle.std.proofs.Common.{◌∙◌, sym, ℕ, List, ◌++◌, length, Option, Result, Ok, Err, ⊎_elim, subst, arith}
 use Rattle.std.specs.Prelude.{OnErr, OnOk}
 use Rattle.std.proofs.Common.{inl, inr}
 use Rattle.edge_io.specs.Faults.{Rose}

@@ -5,6 +5,7 @@ pub mod Computing
 pub mod Growing
 pub mod Ran
 pub mod Answering
+pub mod OneAnswer
 pub mod Gathering
 pub mod Run
 pub mod Reached

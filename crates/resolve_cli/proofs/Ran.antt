@@ -1,5 +1,5 @@
 -- What a stopped run of a module's image says of out.
-use Rattle.std.proofs.Common.{◌≡◌, ◌∙◌, sym, ap, refl, subst, ℕ, ◌+◌, ◌≤◌, ℤ, List, [], ◌∷◌, ◌++◌, length, take, map, Option, Some, None, arith, append_assoc}
+use Rattle.std.proofs.Common.{◌≡◌, ◌∙◌, sym, ap, refl, subst, ℕ, ◌≤◌, ℤ, List, [], ◌∷◌, ◌++◌, length, map, Option, Some, None, arith, append_assoc}
 use Rattle.std.specs.Prelude.{IsSomeAnd, IsSome}
 use Rattle.std.proofs.lemmas.List.{take-append-le, take_all}
 use Rattle.edge_io.specs.Held.{Grew, GrewByPrefix}

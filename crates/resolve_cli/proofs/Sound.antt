@@ -1,25 +1,23 @@
 -- A proved condition is valid, and a valid one makes the output one that Main allows.
-use Rattle.std.proofs.Common.{◌≡◌, ◌∙◌, sym, ap, refl, subst, ℕ, zero, suc, ◌+◌, ◌<◌, ◌==◌, ℤ, pos, negsuc, int_le, Bool, true, false, ◌&&◌, List, [], ◌∷◌, ◌++◌, length, map, cond, inl, inr, eqb, ◌≢◌, arith, IsTrue}
-use Rattle.std.specs.Prelude.{◌⊎◌, Contains, if◌then◌else◌}
+use Rattle.std.proofs.Common.{◌≡◌, ◌∙◌, sym, ap, refl, subst, ℕ, zero, suc, ℤ, pos, negsuc, int_le, Bool, true, false, ◌&&◌, List, [], ◌∷◌, map, cond, inl, inr, eqb, ◌≢◌, arith}
+use Rattle.std.specs.Prelude.{◌⊎◌, Contains}
 use Rattle.std.specs.List.{list_all}
 use Rattle.std.proofs.lemmas.Bool.Decides.{eqb_tells}
 use Rattle.math_terms.specs.declared.term.Term.{Term}
 use Rattle.math_terms.specs.declared.term.Term.TheOpen.{Term-F}
 use Rattle.math_terms.specs.declared.term.Term.TheFolds.{fold-roll-Term}
-use Rattle.math_terms.specs.declared.descriptor.Shape.TheOpen.{Shape-F, Desc-F}
-use Rattle.math_terms.specs.declared.descriptor.Shape.TheFolds.{fold-roll-Shape, fold-roll-Desc, fold-Desc}
+use Rattle.math_terms.specs.declared.descriptor.Shape.TheOpen.{Shape-F}
+use Rattle.math_terms.specs.declared.descriptor.Shape.TheFolds.{fold-roll-Shape, fold-roll-Desc}
 use Rattle.math_terms.specs.declared.descriptor.Shape.TheViews.{roll-Shape}
 use Rattle.math_terms.specs.declared.term.Term.TheViews.{roll-Term}
 use Rattle.math_terms.specs.Laws.{SubstitutionKeepsValues, EqualityIsSameness}
-use Rattle.math_terms.specs.Values.{Val, Num, Truth, Str, string, truth, number, same}
+use Rattle.math_terms.specs.Values.{Val, Num, Truth, string, truth, number, same}
 use Rattle.math_terms.specs.Meaning.{Valuation, set_to, value_step, value_where}
 use Rattle.math_terms.specs.Descriptors.{Interpretation, IsInterpretation, holds, value, member, starts_in, lies_in, shape_step, member_step, zeros}
-use Rattle.math_terms.specs.Terms.{put}
 use Rattle.resolve_cli.specs.declared.module.Literal.{Literal}
-use Rattle.resolve_cli.specs.declared.module.Form.{Form}
 use Rattle.resolve_cli.specs.declared.module.Module.{Module}
 use Rattle.resolve_cli.specs.Form.{number_of}
-use Rattle.resolve_cli.specs.Condition.{num, var, at_most, min_int, max_int, output, empty_string, equal, extended, claim, stream, integer, least, greatest, begins_empty, hypotheses, goal_of, condition_of, IsValidCondition, IsClosed, IsComputed, IsProved, numbers, main_values, ensures_of, Allows}
+use Rattle.resolve_cli.specs.Condition.{num, var, at_most, min_int, max_int, empty_string, equal, extended, claim, stream, integer, least, greatest, begins_empty, hypotheses, goal_of, condition_of, IsValidCondition, IsProved, main_values, Allows}
 use Rattle.resolve_cli.proofs.TermValues.{worth_value, map-worth, value_empty, value_var, value_equal, value_extended, value_claim}
 
 and_left : (a b : Bool) → a && b ≡ true → a ≡ true

@@ -1,9 +1,9 @@
 -- Values and sizes of the terms of a module's condition.
-use Rattle.std.proofs.Common.{◌≡◌, ◌∙◌, sym, ap, refl, ℕ, ◌+◌, ◌*◌, ◌≤◌, ℤ, pos, Bool, true, false, List, [], ◌∷◌, ◌++◌, length, map, arith, append_assoc, append-nil}
+use Rattle.std.proofs.Common.{◌≡◌, ◌∙◌, sym, ap, refl, ℕ, ◌+◌, ◌*◌, ◌≤◌, ℤ, Bool, List, [], ◌∷◌, ◌++◌, length, map, arith, append_assoc, append-nil}
 use Rattle.math_terms.specs.declared.term.Term.{Term}
 use Rattle.math_terms.specs.declared.term.Term.TheOpen.{Term-F}
 use Rattle.math_terms.specs.declared.term.Term.TheFolds.{fold-roll-Term}
-use Rattle.math_terms.specs.Values.{Val, Vals, Num, Truth, Str, Tup, vals_of, list_of, string, entries, same, truth}
+use Rattle.math_terms.specs.Values.{Val, Num, Truth, vals_of, list_of, string, entries, same}
 use Rattle.math_terms.specs.Meaning.{Valuation, value_step, value_where}
 use Rattle.math_terms.specs.Terms.{nodes, nodes_step, put, put_step}
 use Rattle.resolve_cli.specs.declared.module.Literal.{Literal}

@@ -1,8 +1,6 @@
 -- What a command answers: its status and the bytes for out, in the order of work.
-use Rattle.std.specs.Prelude.{◌≡◌, ℕ, ℤ, pos, ◌<◌, ◌≤◌, ◌⊎◌, Bool, true, false, List, [], ◌∷◌, ◌++◌, map, length, Option, Some, None, IsTrue, IsSome, codes}
-use Rattle.math_terms.specs.declared.name.Name.{Name}
+use Rattle.std.specs.Prelude.{◌≡◌, ℕ, ℤ, ◌<◌, ◌≤◌, ◌⊎◌, false, List, [], ◌∷◌, ◌++◌, length, Some, None, IsSome, codes}
 use Rattle.edge_io.specs.Files.{Files}
-use Rattle.edge_io.specs.Held.{Grew, GrewByPrefix}
 use Rattle.res_lexer.specs.declared.token.LexError.{LexError}
 use Rattle.res_lexer.specs.Tokens.{Refuses}
 use Rattle.source_meaning.specs.declared.linked.Scalar.{Scalar}

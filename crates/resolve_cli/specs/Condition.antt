@@ -1,5 +1,5 @@
 -- The condition of a module, when it counts as proved, and what Main allows.
-use Rattle.std.specs.Prelude.{◌≡◌, ℕ, ℤ, pos, negsuc, ◌⊎◌, Bool, true, false, List, [], ◌∷◌, map, codes, Contains, IsTrue}
+use Rattle.std.specs.Prelude.{◌≡◌, ℕ, ℤ, pos, negsuc, ◌⊎◌, true, List, [], ◌∷◌, map, codes, Contains, IsTrue}
 use Rattle.math_terms.specs.declared.name.VcName.{VcName}
 use Rattle.math_terms.specs.declared.term.Term.{Term}
 use Rattle.math_terms.specs.declared.term.Term.TheOpen.{Term-F}

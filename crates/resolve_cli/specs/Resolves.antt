@@ -1,5 +1,5 @@
 -- What the top call leaves: on out, on notes, and of the files.
-use Rattle.std.specs.Prelude.{◌≡◌, ℕ, ℤ, ◌<◌, ◌≤◌, ◌⊎◌, List, [], ◌++◌, Option, Some, None, Bool, IsTrue, map, length}
+use Rattle.std.specs.Prelude.{◌≡◌, ℕ, ℤ, ◌<◌, ◌≤◌, ◌⊎◌, List, [], Option, Some, None, Bool, IsTrue, map, length}
 use Rattle.edge_io.specs.Faults.{Rose}
 use Rattle.edge_io.specs.Files.{Files, SameFiles}
 use Rattle.edge_io.specs.Held.{Grew, GrewByPrefix}
@@ -118,3 +118,11 @@ pub record RanRight (words : List Word) (tells : Bool) (shelf : Files) (old new 
   pub held : IsTrue tells → shelf name ≡ Some bytes
   pub right : IsRight bytes written
   pub grew : Grew old new (lines written)
+
+-- The status and the bytes are the answer's, or memory ran out.
+abbrev pub Completes : List Word → Bool → Files → Status → Option (List ℕ) → Option (List ℕ) → Type 0
+Completes words tells shelf s old new = (s ≡ status.NoMemory) ⊎ ((files : Files) × Saw tells shelf files × Got words files s old new)
+
+-- The words have at most one answer over the files.
+abbrev pub OneAnswer : Type 0
+OneAnswer = (words : List Word) (files : Files) (s t : Status) (o p : List ℕ) → Answers words files s o → Answers words files t p → (s ≡ t) × (o ≡ p)

@@ -1,6 +1,7 @@
 //! The top call: words, files and input in, a status and bytes out.
 #![tactic(auto)]
 
+pub mod answer_laws;
 mod compile;
 mod condition;
 pub mod form_laws;

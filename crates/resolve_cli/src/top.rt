@@ -7,7 +7,7 @@ ghost use Rattle.edge_io.specs.Held.{Grew};
 ghost use Rattle.res_lexer.specs.Tokens.{AreTokens, RefusesOrNoMemory};
 ghost use Rattle.resolve_cli.specs.Form.{IsSmall, IsSmallLiteral, IsSmallToken, Spells, place_of};
 ghost use Rattle.resolve_cli.specs.Answer.{most_component_bytes, most_steps};
-ghost use Rattle.resolve_cli.specs.Resolves.{Answered, FileAnswered, ModuleAnswered, Noted, RanRight, Saw, SomeFile, TextAnswered};
+ghost use Rattle.resolve_cli.specs.Resolves.{Answered, Completes, FileAnswered, ModuleAnswered, Noted, RanRight, Saw, SomeFile, TextAnswered};
 ghost use Rattle.resolve_cli.specs.Texts.{note_of};
 
 use crate::form_laws::{no_module_refused, one_form, small_tokens};
@@ -236,6 +236,9 @@ pub fn resolve<S: Source, K: Sink, N: Sink, F: Shelf>(
     // of the outside or want of memory it got a prefix of them.
     ensures answered { (files : Files) × Saw (F.tells shelf.old) (F.files shelf.old) files
         × Answered (map string_bytes words.now) files result (K.held out.old) (K.held out.new) }
+    // Where no count of faults rose, as over ends that never fail, the status is the answer's or memory ran out.
+    ensures complete { (Rose (K.faults out.old) (K.faults out.new) → ⊥) → (Rose (F.faults shelf.old) (F.faults shelf.new) → ⊥)
+        → Completes (map string_bytes words.now) (F.tells shelf.old) (F.files shelf.old) result (K.held out.old) (K.held out.new) }
     // The headline.
     ensures right { result ≡ Status.Done → RanRight (map string_bytes words.now) (F.tells shelf.old) (F.files shelf.old)
         (K.held out.old) (K.held out.new) }

@@ -1,5 +1,4 @@
-use Rattle.std.proofs.Common.{◌++◌, ◌∷◌, [], subst}
-use Rattle.resolve_cli.specs.Resolves.{Noted}
+use Rattle.std.proofs.Common.{◌++◌, ◌∷◌, []}
 use Rattle.resolve_cli.proofs.Growing.{noted}
 use Rattle.resolve_cli.proofs.notes.note.Goals as goal
 

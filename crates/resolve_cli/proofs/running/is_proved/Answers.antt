@@ -1,4 +1,4 @@
-use Rattle.std.proofs.Common.{sym, subst, ◌↔◌, ◌≤◌, ap, ◌∙◌}
+use Rattle.std.proofs.Common.{sym, subst, ◌↔◌, ◌≤◌, ◌∙◌}
 use Rattle.std.specs.Prelude.{IfOk, IsTrue, ◌⊎◌}
 use Rattle.math_terms.specs.Terms.{nodes, put}
 use Rattle.resolve_cli.specs.Condition.{IsClosed, IsComputed, empty_string, hypotheses}

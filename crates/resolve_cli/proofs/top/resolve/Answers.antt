@@ -1,4 +1,5 @@
-use Rattle.std.proofs.Common.{subst}
+use Rattle.std.proofs.Common.{subst, inl, inr}
+use Rattle.resolve_cli.proofs.OneAnswer.{complete}
 use Rattle.std.specs.Prelude.{map, string_bytes}
 use Rattle.resolve_cli.specs.Resolves.{Answered}
 use Rattle.resolve_cli.proofs.Answering.{Laws, ran_right}
@@ -13,3 +14,11 @@ returns-clause-right g c =
     let new = g.K.Sink.held c.answer-status.new.out in
     let answered = c.answer-status.ensures.answered in
     λ done. ran_right laws c.substitution_keeps_values.ensures c.equality_is_sameness.ensures words (g.F.Shelf.tells shelf) (g.F.Shelf.files shelf) answered.0 old new answered.1 (subst (λ s. Answered words answered.0 s old new) done answered.2)
+
+pub returns-clause-complete : goal.returns-clause-complete
+returns-clause-complete g c =
+    let words = map string_bytes c.args.words.now in
+    let old = g.K.Sink.held c.args.out.now in
+    let new = g.K.Sink.held c.answer-status.new.out in
+    let answered = c.answer-status.ensures.answered in
+    λ no_sink no_shelf. elim (complete words answered.0 c.answer-status.result old new (λ e. no_sink (c.answer-status.ensures.fault e)) (λ e. no_shelf (c.answer-status.ensures.shelf_fault e)) answered.2) [ inl memory ↦ inl memory | inr got ↦ inr (answered.0, answered.1, got) ]

@@ -1,4 +1,4 @@
-use Rattle.std.proofs.Common.{◌≡◌, ◌∙◌, refl, sym, subst, inl}
+use Rattle.std.proofs.Common.{◌≡◌, refl, subst, inl}
 use Rattle.std.specs.Prelude.{IfOk}
 use Rattle.resolve_cli.proofs.Answering.{longer_file}
 use Rattle.resolve_cli.proofs.top.run_file.Goals as goal

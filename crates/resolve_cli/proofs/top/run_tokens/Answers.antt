@@ -1,4 +1,4 @@
-use Rattle.std.proofs.Common.{◌≡◌, ◌∙◌, sym, subst}
+use Rattle.std.proofs.Common.{◌≡◌, subst}
 use Rattle.std.specs.Prelude.{IfOk}
 use Rattle.resolve_cli.specs.Texts.{not_yet_line}
 use Rattle.resolve_cli.proofs.Answering.{Laws, text_answered, not_yet_text, refused_text, memory_text}
