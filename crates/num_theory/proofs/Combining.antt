@@ -1,0 +1,33 @@
+-- A combined row, place by place.
+use Rattle.std.proofs.Common.{◌≡◌, ℕ, zero, suc, ◌<◌, List, [], ◌∷◌, length, get_or, ℤ, pos, refl, arith}
+use Rattle.num_theory.specs.Rows.{combined, combined_number, IsNarrow, AllNarrow}
+
+-- what stands at one place of the combined row
+abbrev pub combined_at : ℕ → List ℤ → ℕ → List ℤ → ℕ → ℤ
+combined_at p xs q ys j = combined_number p (get_or xs j (pos 0)) q (get_or ys j (pos 0))
+
+pub combined-from_places : (p : ℕ) (xs : List ℤ) (q : ℕ) (ys zs : List ℤ) → length xs ≡ length ys → length zs ≡ length xs →
+    ((j : ℕ) → j < length zs → get_or zs j (pos 0) ≡ combined_at p xs q ys j) → zs ≡ combined p xs q ys
+combined-from_places p [] q ys [] same long each = refl
+combined-from_places p [] q ys (z ∷ zs) same long each = absurd (omega arith)
+combined-from_places p (x ∷ xs) q [] zs same long each = absurd (omega arith)
+combined-from_places p (x ∷ xs) q (y ∷ ys) [] same long each = absurd (omega arith)
+combined-from_places p (x ∷ xs) q (y ∷ ys) (z ∷ zs) same long each =
+    let first : z ≡ combined_number p x q y = each 0 (omega arith) in
+    let rest : zs ≡ combined p xs q ys =
+    combined-from_places p xs q ys zs (omega arith) (omega arith) (λ j within. each (suc j) (omega arith)) in
+    cc
+
+pub narrow-from_places : (p : ℕ) (xs : List ℤ) (q : ℕ) (ys : List ℤ) → length xs ≡ length ys →
+    ((j : ℕ) → j < length xs → IsNarrow (combined_at p xs q ys j)) → AllNarrow (combined p xs q ys)
+narrow-from_places p [] q ys same each = tt
+narrow-from_places p (x ∷ xs) q [] same each = tt
+narrow-from_places p (x ∷ xs) q (y ∷ ys) same each =
+    (each 0 (omega arith), narrow-from_places p xs q ys (omega arith) (λ j within. each (suc j) (omega arith)))
+
+pub narrow-at : (p : ℕ) (xs : List ℤ) (q : ℕ) (ys : List ℤ) (j : ℕ) → length xs ≡ length ys → j < length xs →
+    AllNarrow (combined p xs q ys) → IsNarrow (combined_at p xs q ys j)
+narrow-at p [] q ys j same within all = absurd (omega arith)
+narrow-at p (x ∷ xs) q [] j same within all = absurd (omega arith)
+narrow-at p (x ∷ xs) q (y ∷ ys) zero same within all = all.0
+narrow-at p (x ∷ xs) q (y ∷ ys) (suc j) same within all = narrow-at p xs q ys j (omega arith) (omega arith) all.1

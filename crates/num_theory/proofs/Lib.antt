@@ -1,0 +1,3 @@
+pub mod Combining
+pub mod Divisors
+pub mod Magnitudes

@@ -1,0 +1,38 @@
+//! Each call once, and the rows that tell its meaning.
+
+use crate::{Wide, combine, largest, reduce};
+
+#[test]
+fn rows_are_reduced_and_their_constants_rounded_down(rt: HostRuntime) {
+    for (mut row, want) in [
+        ([4, 6, -3], [2, 3, -2]),
+        ([0, 0, 5], [0, 0, 5]),
+        ([6, -9, -1], [2, -3, -1]),
+    ] {
+        reduce(&mut row);
+        assert_eq!(rt; row, want);
+    }
+    let mut short = [2, 1];
+    reduce(&mut short);
+    assert_eq!(rt; short, [1, 0]);
+}
+
+#[test]
+fn rows_are_combined_place_by_place(rt: HostRuntime) {
+    let mut out = [7, 7];
+    assert_eq!(rt; combine(2, &[1, 0], 1, &[-2, 5], &mut out), Ok(()));
+    assert_eq!(rt; out, [0, 5]);
+}
+
+#[test]
+fn a_wide_result_leaves_zeros(rt: HostRuntime) {
+    let mut out = [7];
+    assert_eq!(rt; combine(2, &[1073741824], 0, &[0], &mut out), Err(Wide));
+    assert_eq!(rt; out, [0]);
+}
+
+#[test]
+fn the_least_number_has_the_greatest_magnitude(rt: HostRuntime) {
+    assert_eq!(rt; largest(&[]), 0);
+    assert_eq!(rt; largest(&[-2147483648]), 2147483648);
+}
