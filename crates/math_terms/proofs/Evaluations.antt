@@ -3,8 +3,8 @@ use Rattle.std.proofs.Common.{◌≡◌, ◌∙◌, sym, ap, refl, subst, ℕ, z
 use Rattle.std.proofs.lemmas.Bool.{and_right}
 use Rattle.std.proofs.lemmas.List.{drop-take, take_min, drop_min, length-take, take-map, drop-map, map-append, reverse-append}
 use Rattle.std.specs.List.{list_all}
-use Rattle.math_terms.specs.declared.evaluation.Binary.{Binary}
-use Rattle.math_terms.specs.declared.evaluation.Unary.{Unary}
+use Rattle.math_terms.specs.declared.view.Binary.{Binary}
+use Rattle.math_terms.specs.declared.view.Unary.{Unary}
 use Rattle.math_terms.specs.declared.name.NoMemory.{NoMemory}
 use Rattle.math_terms.specs.declared.term.Term.{Term}
 use Rattle.math_terms.specs.declared.term.Term.TheOpen.{Term-F}
@@ -19,7 +19,8 @@ use Rattle.math_terms.proofs.Sameness.{list_of-vals_of, same_from_code}
 use Rattle.math_terms.specs.Meaning.{value_step}
 use Rattle.math_terms.specs.Descriptors.{nothing, zeros}
 use Rattle.math_terms.specs.Plain.{is_narrow, is_plain, plain_step}
-use Rattle.math_terms.specs.Evaluating.{IsEvaluation, binary_node, plain, plain_value, unary_node}
+use Rattle.math_terms.specs.Views.{binary_node, unary_node}
+use Rattle.math_terms.specs.Evaluating.{IsEvaluation, plain, plain_value}
 
 -- the part of a list from one place to another, cut at its length
 pub between_is : {A : Type 0} (m n s e : ℕ) (xs : List A) → e ≡ min n (length xs) → s ≡ min m e → take (e - s) (drop s xs) ≡ drop m (take n xs)

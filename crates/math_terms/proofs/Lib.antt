@@ -4,3 +4,10 @@ pub mod Counting
 pub mod Sameness
 pub mod Evaluations
 pub mod Closedness
+pub mod SameTerms
+pub mod Shaped
+pub mod Meets
+pub mod Heads
+pub mod Walks
+pub mod SortsToKinds
+pub mod Clashes

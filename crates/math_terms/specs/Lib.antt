@@ -6,3 +6,8 @@ pub mod Validity
 pub mod Plain
 pub mod Laws
 pub mod Evaluating
+pub mod Heads
+pub mod Sorts
+pub mod Kinds
+pub mod Views
+pub mod Walking

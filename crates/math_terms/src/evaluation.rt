@@ -8,7 +8,8 @@ ghost use Rattle.math_terms.specs.declared.term.Term.TheOpen.{Term-F};
 ghost use Rattle.math_terms.specs.Meaning.{Valuation, value_step};
 ghost use Rattle.math_terms.specs.Descriptors.{Interpretation, holds, nothing, zeros};
 ghost use Rattle.math_terms.specs.Plain.{is_narrow, is_plain, plain_step};
-ghost use Rattle.math_terms.specs.Evaluating.{IsEvaluation, binary_node, plain, unary_node};
+ghost use Rattle.math_terms.specs.Evaluating.{IsEvaluation, plain};
+ghost use Rattle.math_terms.specs.Views.{binary_node, unary_node};
 
 use crate::name::NoMemory;
 use crate::operations::{
@@ -17,37 +18,12 @@ use crate::operations::{
 };
 use crate::term::{Formula, Term};
 use crate::value::Value;
+use crate::view::{Binary, Unary};
 use sqlite_items::{Boxed, Items};
 use std::alloc::Global;
 
 /// The value of a term, or none where the term is not plain.
 type Evaluated = Result<Option<Value>, NoMemory>;
-
-/// What stands between two terms.
-#[derive(Clone, Copy)]
-enum Binary {
-    Add,
-    Sub,
-    Mul,
-    Div,
-    Mod,
-    Cat,
-    Eq,
-    Less,
-    LessEq,
-    And,
-    Or,
-    Implies,
-}
-
-/// What stands at one term.
-#[derive(Clone, Copy)]
-enum Unary {
-    Len,
-    Single,
-    Reverse,
-    Not,
-}
 
 /// Whether a closed formula is true. It is none where a variable, `MinInt`, `MaxInt` or `Initial` stands anywhere,
 /// or where the number of some node does not fit 128 bits. A closed term of another sort is not true.

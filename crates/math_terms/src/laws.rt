@@ -1,6 +1,6 @@
 //! Laws of the definitions. The functions do nothing: their contracts are what is proved.
 
-ghost use Rattle.math_terms.specs.Laws.{SubstitutionKeepsValues, EqualityIsSameness};
+ghost use Rattle.math_terms.specs.Laws.{SubstitutionKeepsValues, EqualityIsSameness, SameTermsAreEqual, ValuesHaveKinds, SortsHaveKinds};
 
 /// A substituted term has the value of the term where the variable has the value of what is put for it.
 pub fn substitution_keeps_values()
@@ -11,4 +11,20 @@ pub fn substitution_keeps_values()
 #[tactic(auto, using(crate::proofs::Sameness::same_decides))]
 pub fn equality_is_sameness()
     ensures { EqualityIsSameness }
+{}
+
+/// Terms are equal exactly where they are the same, node by node.
+#[tactic(auto, using(crate::proofs::SameTerms::same_term_decides))]
+pub fn same_terms_are_equal()
+    ensures { SameTermsAreEqual }
+{}
+
+/// Values are of the kinds of their terms.
+pub fn values_have_kinds()
+    ensures { ValuesHaveKinds }
+{}
+
+/// Terms that have sorts are of the kinds of these.
+pub fn sorts_have_kinds()
+    ensures { SortsHaveKinds }
 {}

@@ -110,3 +110,25 @@ pub enum TermError {
     SortClash { node: u32 },
     NoMemory,
 }
+
+impl From<NoMemory> for TermError {
+    ghost use Rattle.std.specs.Prelude.{◌≡◌};
+    ghost use Rattle.math_terms.specs.declared.name.TermError.TheVariants.{NoMemory};
+
+    ghost from_gives = { λ _ e. e ≡ NoMemory };
+
+    fn from(_error: NoMemory) -> TermError {
+        TermError::NoMemory
+    }
+}
+
+impl From<AllocError> for TermError {
+    ghost use Rattle.std.specs.Prelude.{◌≡◌};
+    ghost use Rattle.math_terms.specs.declared.name.TermError.TheVariants.{NoMemory};
+
+    ghost from_gives = { λ _ e. e ≡ NoMemory };
+
+    fn from(_error: AllocError) -> TermError {
+        TermError::NoMemory
+    }
+}

@@ -1,8 +1,8 @@
 //! Each call once where it succeeds, and the rows that tell its meaning.
 
 use crate::{
-    Boxed, Desc, Items, Name, NoMemory, Shape, Sort, Term, TermError, Value, VcName, boxed,
-    substitute, truth,
+    Boxed, Desc, Items, Name, NoMemory, Shape, Sort, Term, TermError, Value, VcName, View, boxed,
+    kind_of, sort_of, substitute, truth,
 };
 use std::alloc::Global;
 use std::test::Fail;
@@ -118,6 +118,97 @@ fn a_copy_of_a_descriptor_has_its_parts(rt: HostRuntime) -> Result<(), Fail> {
     let copied = shape.copy(alloc)?;
     assert!(rt; matches!(&copied, Shape::Str(_)));
     Ok(())
+}
+
+/// The sort of a small term.
+fn small_sort(alloc: Global, t: &Term, vars: &[Sort]) -> Result<Sort, TermError> {
+    if t.nodes_up_to(100) > 100 {
+        return Err(TermError::TooLarge);
+    }
+    sort_of(alloc, t, vars)
+}
+
+/// `1 + true`
+fn number_and_truth(alloc: Global) -> Result<Term, NoMemory> {
+    Ok(Term::Add(
+        boxed(alloc, Term::Num(1))?,
+        boxed(alloc, Term::Truth(true))?,
+    ))
+}
+
+#[test]
+fn a_sum_of_a_truth_value_clashes_at_the_sum(rt: HostRuntime) -> Result<(), Fail> {
+    let alloc = rt.alloc();
+    let t = number_and_truth(alloc)?;
+    assert!(rt;
+        matches!(
+            small_sort(alloc, &t, &[]),
+            Err(TermError::SortClash { node: 2 })
+        )
+    );
+    Ok(())
+}
+
+/// `|<1> o Empty_String|`
+fn length_of_one(alloc: Global) -> Result<Term, NoMemory> {
+    let one = Term::Single(boxed(alloc, Term::Num(1))?);
+    let joined = Term::Cat(boxed(alloc, one)?, boxed(alloc, Term::Empty)?);
+    Ok(Term::Len(boxed(alloc, joined)?))
+}
+
+#[test]
+fn the_empty_string_meets_every_string(rt: HostRuntime) -> Result<(), Fail> {
+    let alloc = rt.alloc();
+    let t = length_of_one(alloc)?;
+    assert!(rt; small_sort(alloc, &t, &[])?.is_number());
+    Ok(())
+}
+
+#[test]
+fn a_variable_that_is_not_there_clashes(rt: HostRuntime) -> Result<(), Fail> {
+    let alloc = rt.alloc();
+    let t = equation(alloc, Term::Var(1), Term::Var(1))?;
+    assert!(rt;
+        matches!(
+            small_sort(alloc, &t, &[]),
+            Err(TermError::SortClash { node: 0 })
+        )
+    );
+    Ok(())
+}
+
+/// Part 0 of the tuple of 1 and true.
+fn first_part(alloc: Global) -> Result<Term, NoMemory> {
+    let mut parts = Items::new(alloc);
+    parts.push(Term::Num(1))?;
+    parts.push(Term::Truth(true))?;
+    Ok(Term::Proj(0, boxed(alloc, Term::Tuple(parts))?))
+}
+
+#[test]
+fn a_part_has_its_own_kind(rt: HostRuntime) -> Result<(), Fail> {
+    let alloc = rt.alloc();
+    let t = first_part(alloc)?;
+    assert!(rt; kind_of(alloc, &t, &[])?.is_number());
+    Ok(())
+}
+
+#[test]
+fn a_descriptor_of_truth_values_has_their_sort(rt: HostRuntime) -> Result<(), Fail> {
+    let alloc = rt.alloc();
+    let boolean = Desc {
+        shape: Shape::B,
+        constraint: Term::Truth(true),
+        initial: Term::Var(0),
+    };
+    assert!(rt; boolean.sort(alloc)?.is_truth());
+    Ok(())
+}
+
+#[test]
+fn a_view_shows_the_head(rt: HostRuntime) {
+    let t = Term::Var(3);
+    assert!(rt; matches!(t.view(), View::Var(3)));
 }
 
 #[test]
