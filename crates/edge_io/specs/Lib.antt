@@ -2,3 +2,4 @@ pub mod Faults
 pub mod Held
 pub mod Files
 pub mod Memory
+pub mod Numbers

@@ -8,6 +8,7 @@ pub mod laws;
 mod left;
 pub mod listed;
 pub mod memory;
+pub mod numbers;
 pub mod pairs;
 pub mod shelf;
 pub mod sink;
