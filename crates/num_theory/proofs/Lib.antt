@@ -1,3 +1,9 @@
 pub mod Combining
 pub mod Divisors
 pub mod Magnitudes
+pub mod Listing
+pub mod Heads
+pub mod Adding
+pub mod Forming
+pub mod Placing
+pub mod WellMade

@@ -1,14 +1,20 @@
 -- Bounds on products, and the greatest magnitude of a row that grows.
-use Rattle.std.proofs.Common.{◌≡◌, ℕ, ◌+◌, ◌-◌, ◌*◌, ◌^◌, ◌<◌, ◌≤◌, max, List, length, get_or, take, ℤ, pos, negsuc, ◌*ℤ◌, ◌+ℤ◌, to_z, of_z, unsigned_abs, SFits, w32, w64, refl, ap, ◌∙◌, arith, lit<}
+use Rattle.std.proofs.Common.{◌≡◌, ℕ, ◌+◌, ◌-◌, ◌*◌, ◌^◌, ◌<◌, ◌≤◌, max, List, length, get_or, take, ℤ, pos, negsuc, ◌*ℤ◌, ◌+ℤ◌, to_z, of_z, unsigned_abs, SFits, w32, w64, ltb, true, refl, ap, ◌∙◌, arith, lit<}
 use Rattle.std.proofs.lemmas.Int.{unsigned_abs-mul, fits_signed_mul, fits_signed_from_abs, to_z-of_z, ints}
 use Rattle.std.proofs.lemmas.Nat.{mul-le}
 use Rattle.std.proofs.lemmas.List.{take_more}
 use Rattle.std.proofs.lemmas.List.Recursion.{max_push}
+use Rattle.std.proofs.lemmas.Bool.{and_parts, ltb-true}
+use Rattle.num_theory.specs.Lines.{narrow}
 use Rattle.num_theory.specs.Rows.{greatest}
 
 pub magnitude_bound : (x : ℤ) → SFits w32 x → unsigned_abs x ≤ 2 ^ 31
 magnitude_bound (pos n) f = omega (arith, f.sfits)
 magnitude_bound (negsuc n) f = omega (arith, f.sfits)
+
+pub magnitude_bound64 : (x : ℤ) → SFits w64 x → unsigned_abs x ≤ 2 ^ 63
+magnitude_bound64 (pos n) f = omega (arith, f.sfits)
+magnitude_bound64 (negsuc n) f = omega (arith, f.sfits)
 
 pub product_bound : (p : ℕ) (x : ℤ) → p < 2 ^ 31 → SFits w32 x → unsigned_abs (pos p *ℤ x) < 2 ^ 62
 product_bound p x below f =
@@ -35,3 +41,7 @@ narrow_sum r s fr fs both small =
 
 pub sum_fits : (r s : ℤ) → unsigned_abs r < 2 ^ 62 → unsigned_abs s < 2 ^ 62 → SFits w64 (r +ℤ s)
 sum_fits r s hr hs = omega (arith, ints)
+
+pub narrow_fits : (z : ℤ) → narrow z ≡ true → SFits w32 z
+narrow_fits (pos n) h = record { sfits = omega (arith, ltb-true n 2147483648 h) }
+narrow_fits (negsuc n) h = record { sfits = omega (arith, ltb-true n 2147483647 (and_parts (ltb n 2147483647) true h).0) }

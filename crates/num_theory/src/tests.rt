@@ -1,6 +1,8 @@
 //! Each call once, and the rows that tell its meaning.
 
-use crate::{Wide, combine, largest, reduce};
+use crate::{Wide, combine, largest, linear, reduce};
+use math_terms::{Boxed, NoMemory, Term, boxed};
+use std::alloc::Global;
 
 #[test]
 fn rows_are_reduced_and_their_constants_rounded_down(rt: HostRuntime) {
@@ -35,4 +37,30 @@ fn a_wide_result_leaves_zeros(rt: HostRuntime) {
 fn the_least_number_has_the_greatest_magnitude(rt: HostRuntime) {
     assert_eq!(rt; largest(&[]), 0);
     assert_eq!(rt; largest(&[-2147483648]), 2147483648);
+}
+
+fn variable(alloc: Global, k: u32) -> Result<Boxed<Term>, NoMemory> {
+    boxed(alloc, Term::Var(k))
+}
+
+/// `v2 - v10 + v2`
+fn a_sum(alloc: Global) -> Result<Term, NoMemory> {
+    let difference = Term::Sub(variable(alloc, 2)?, variable(alloc, 10)?);
+    Ok(Term::Add(boxed(alloc, difference)?, variable(alloc, 2)?))
+}
+
+#[test]
+fn products_stand_in_the_order_of_their_texts(rt: HostRuntime) -> Result<(), NoMemory> {
+    let term = a_sum(rt.alloc())?;
+    let form = linear(rt.alloc(), &term)?;
+    let mut coefficients = [0, 0];
+    if let Some(form) = &form {
+        for (k, product) in form.products.as_slice().iter().enumerate() {
+            if k < 2 {
+                coefficients[k] = product.0;
+            }
+        }
+    }
+    assert_eq!(rt; coefficients, [-1, 2]);
+    Ok(())
 }

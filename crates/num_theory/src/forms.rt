@@ -1,0 +1,293 @@
+//! Forms of terms while they are made: their coefficients may be 0 or wide.
+
+ghost use Rattle.std.specs.Prelude.{◌≡◌, ◌+ℤ◌, ◌*ℤ◌, IfOk, OnOk, map, position, [], ◌∷◌, ◌++◌, negsuc};
+ghost use Rattle.math_terms.specs.declared.term.Term.TheOpen.{Term-F};
+ghost use Rattle.math_terms.specs.declared.term.Term.TheViews.{roll-Term};
+ghost use Rattle.math_terms.specs.Heads.{same_term};
+ghost use Rattle.math_terms.specs.Views.{binary_node};
+ghost use Rattle.num_theory.specs.Lines.{narrow};
+ghost use Rattle.num_theory.specs.Linear as spec;
+ghost use Rattle.num_theory.specs.Making.{form_of};
+
+use math_terms::{Binary, NoMemory, Term, View, boxed, same_terms_are_equal};
+use std::alloc::Global;
+
+// The least magnitude of a wide coefficient, and the one that stands for all that are greater than it.
+const WIDE: i64 = 1 << 31;
+
+const CLIPPED: i64 = 1 << 62;
+
+/// A sum of products, in the order in which their atoms first occur, and a constant. It is narrow where its numbers,
+/// and those of each form that it is made from, have magnitudes below 2^31.
+#[derive(Drop)]
+pub(crate) struct RawForm {
+    pub products: Vec<(i64, Term)>,
+    pub constant: i64,
+    pub is_narrow: bool,
+}
+
+fn clip(number: i128) -> i64
+    ensures { result ≡ spec.clipped number }
+{
+    if number >= -i128::from(CLIPPED) && number <= i128::from(CLIPPED) {
+        number as i64
+    } else {
+        CLIPPED
+    }
+}
+
+fn clipped_sum(a: i64, b: i64) -> i64
+    ensures { result ≡ spec.clipped (a +ℤ b) }
+{
+    clip(i128::from(a) + i128::from(b))
+}
+
+fn clipped_product(a: i64, b: i64) -> i64
+    ensures { result ≡ spec.clipped (a *ℤ b) }
+{
+    clip(i128::from(a) * i128::from(b))
+}
+
+fn is_narrow(number: i64) -> bool
+    ensures { result ≡ narrow number }
+{
+    number > -WIDE && number < WIDE
+}
+
+fn are_narrow(products: &[(i64, Term)]) -> bool
+    ensures { result ≡ spec.narrow_products products.now }
+{
+    products.iter().all(|p| is_narrow(p.0))
+}
+
+/// Whether no product has a coefficient other than 0.
+fn are_zero(products: &[(i64, Term)]) -> bool
+    ensures { result ≡ spec.are_zero products.now }
+{
+    products.iter().all(|p| p.0 == 0)
+}
+
+fn is_same(a: &Term, b: &Term) -> bool
+    ensures { result ≡ same_term a.now b.now }
+{
+    same_terms_are_equal();
+    a.same(b)
+}
+
+/// The place of the first product with this atom.
+fn place_of(atom: &Term, products: &[(i64, Term)]) -> Option<usize>
+    ensures { result ≡ position (λ p. same_term atom.now p.1) products.now }
+{
+    products.iter().position(|p| is_same(atom, &p.1))
+}
+
+/// Adds the product to the one of the same atom, or else puts it last.
+fn add_product(
+    products: &mut Vec<(i64, Term)>,
+    coefficient: i64,
+    atom: Term,
+) -> Result<(), NoMemory>
+    ensures { OnOk result (products.new.items ≡ spec.add_product (coefficient, atom) products.old.items) }
+{
+    match place_of(&atom, products) {
+        Some(k) => {
+            products[k].0 = clipped_sum(products[k].0, coefficient);
+            Ok(())
+        }
+        None => push(products, coefficient, atom),
+    }
+}
+
+fn push(products: &mut Vec<(i64, Term)>, coefficient: i64, atom: Term) -> Result<(), NoMemory>
+    ensures { OnOk result (products.new.items ≡ products.old.items ++ (coefficient, atom) ∷ []) }
+{
+    match products.push((coefficient, atom)) {
+        Ok(()) => Ok(()),
+        Err(_) => Err(NoMemory),
+    }
+}
+
+/// Adds products one after another.
+fn add_products(products: &mut Vec<(i64, Term)>, more: Vec<(i64, Term)>) -> Result<(), NoMemory>
+    ensures { OnOk result (products.new.items ≡ spec.add_products products.old.items more.items) }
+{
+    for (coefficient, atom) in more {
+        add_product(products, coefficient, atom)?;
+    }
+    Ok(())
+}
+
+/// A form with these numbers, made from forms that are narrow or not.
+fn made(parts: bool, products: Vec<(i64, Term)>, constant: i64) -> RawForm
+    ensures { form_of result ≡ spec.made parts products.items constant }
+{
+    let is_narrow = parts && are_narrow(&products) && is_narrow(constant);
+    RawForm {
+        products,
+        constant,
+        is_narrow,
+    }
+}
+
+fn constant_form(alloc: Global, number: i64) -> RawForm
+    ensures { form_of result ≡ spec.constant_form number }
+{
+    made(true, Vec::new(alloc), number)
+}
+
+fn atom_form(alloc: Global, t: &Term) -> Result<RawForm, NoMemory>
+    ensures { IfOk result (λ f. form_of f ≡ spec.atom_form t.now) }
+{
+    let mut products = Vec::new(alloc);
+    push(&mut products, 1, t.copy(alloc)?)?;
+    Ok(made(true, products, 0))
+}
+
+fn plus(f: RawForm, g: RawForm) -> Result<RawForm, NoMemory>
+    ensures { IfOk result (λ sum. form_of sum ≡ spec.plus (form_of f) (form_of g)) }
+{
+    let RawForm {
+        mut products,
+        constant,
+        is_narrow,
+    } = f;
+    let RawForm {
+        products: more,
+        constant: other,
+        is_narrow: is_other_narrow,
+    } = g;
+    add_products(&mut products, more)?;
+    Ok(made(
+        is_narrow && is_other_narrow,
+        products,
+        clipped_sum(constant, other),
+    ))
+}
+
+fn scale(by: i64, products: &mut [(i64, Term)])
+    ensures { products.new ≡ map (spec.scaled by) products.old }
+{
+    for p in products.iter_mut() {
+        p.0 = clipped_product(by, p.0);
+    }
+}
+
+fn times(by: i64, f: RawForm) -> RawForm
+    ensures { form_of result ≡ spec.times by (form_of f) }
+{
+    let RawForm {
+        mut products,
+        constant,
+        is_narrow,
+    } = f;
+    scale(by, &mut products);
+    made(is_narrow, products, clipped_product(by, constant))
+}
+
+/// The constant of the form `f` times the form `g`.
+fn multiple(f: RawForm, g: RawForm) -> RawForm
+    ensures { form_of result ≡ spec.multiple (form_of f) (form_of g) }
+{
+    let is_narrow = f.is_narrow && g.is_narrow;
+    let RawForm {
+        products,
+        constant,
+        is_narrow: _,
+    } = times(f.constant, g);
+    made(is_narrow, products, constant)
+}
+
+/// The form of a term.
+#[cycle(form)]
+pub(crate) fn raw_form(alloc: Global, t: &Term) -> Result<RawForm, NoMemory>
+    ensures { IfOk result (λ f. form_of f ≡ (spec.formed t.now).1) }
+{
+    match t.view() {
+        View::Num(number) => Ok(constant_form(alloc, number)),
+        View::Two(op, a, b) => form_of_two(alloc, op, t, a, b),
+        _ => atom_form(alloc, t),
+    }
+}
+
+/// The form of a term `t` with this operator and these operands.
+#[cycle(form)]
+fn form_of_two(alloc: Global, op: Binary, t: &Term, a: &Term, b: &Term) -> Result<RawForm, NoMemory>
+    ensures { t.now ≡ roll-Term (binary_node op a.now b.now) → IfOk result (λ f. form_of f ≡ (spec.formed t.now).1) }
+{
+    match op {
+        Binary::Add => sum_form(alloc, a, b),
+        Binary::Sub => difference_form(alloc, a, b),
+        Binary::Mul => product_form(alloc, t, a, b),
+        Binary::Mod => remainder_form(alloc, t, a, b),
+        _ => atom_form(alloc, t),
+    }
+}
+
+#[cycle(form)]
+fn sum_form(alloc: Global, a: &Term, b: &Term) -> Result<RawForm, NoMemory>
+    ensures { IfOk result (λ f. form_of f ≡ spec.plus (spec.formed a.now).1 (spec.formed b.now).1) }
+{
+    plus(raw_form(alloc, a)?, raw_form(alloc, b)?)
+}
+
+/// The form of the first term minus the second.
+#[cycle(form)]
+pub(crate) fn difference_form(alloc: Global, a: &Term, b: &Term) -> Result<RawForm, NoMemory>
+    ensures { IfOk result (λ f. form_of f ≡ spec.plus (spec.formed a.now).1 (spec.times (negsuc 0) (spec.formed b.now).1)) }
+{
+    plus(raw_form(alloc, a)?, times(-1, raw_form(alloc, b)?))
+}
+
+/// The form of a product `t` of two terms.
+#[cycle(form)]
+fn product_form(alloc: Global, t: &Term, a: &Term, b: &Term) -> Result<RawForm, NoMemory>
+    ensures { t.now ≡ roll-Term (Term-F.Mul a.now b.now) → IfOk result (λ f. form_of f ≡ spec.product_form (spec.formed a.now) (spec.formed b.now)) }
+{
+    let f = raw_form(alloc, a)?;
+    let g = raw_form(alloc, b)?;
+    if are_zero(&g.products) {
+        Ok(multiple(g, f))
+    } else if are_zero(&f.products) {
+        Ok(multiple(f, g))
+    } else {
+        atom_form(alloc, t)
+    }
+}
+
+/// The form of the remainder `t` of two terms.
+#[cycle(form)]
+fn remainder_form(alloc: Global, t: &Term, a: &Term, b: &Term) -> Result<RawForm, NoMemory>
+    ensures { t.now ≡ roll-Term (Term-F.Mod a.now b.now) → IfOk result (λ f. form_of f ≡ spec.remainder_form (spec.formed a.now) (spec.formed b.now)) }
+{
+    match b.view() {
+        View::Num(number) => remainder_by(alloc, t, a, b, number),
+        _ => atom_form(alloc, t),
+    }
+}
+
+/// The form of the remainder `t` of a term by a number `b`.
+#[cycle(form)]
+fn remainder_by(
+    alloc: Global,
+    t: &Term,
+    a: &Term,
+    b: &Term,
+    number: i64,
+) -> Result<RawForm, NoMemory>
+    ensures { t.now ≡ roll-Term (Term-F.Mod a.now b.now) → b.now ≡ roll-Term (Term-F.Num number) → IfOk result (λ f. form_of f ≡ spec.remainder_by (spec.formed a.now) (spec.formed b.now) number) }
+{
+    if number <= 0 {
+        return atom_form(alloc, t);
+    }
+    let quotient = quotient_form(alloc, a, b)?;
+    let rounded = multiple(times(-1, constant_form(alloc, number)), quotient);
+    plus(raw_form(alloc, a)?, rounded)
+}
+
+/// The quotient of two terms as an atom.
+fn quotient_form(alloc: Global, a: &Term, b: &Term) -> Result<RawForm, NoMemory>
+    ensures { IfOk result (λ f. form_of f ≡ spec.atom_form (roll-Term (Term-F.Div a.now b.now))) }
+{
+    let quotient = Term::Div(boxed(alloc, a.copy(alloc)?)?, boxed(alloc, b.copy(alloc)?)?);
+    atom_form(alloc, &quotient)
+}
