@@ -1,0 +1,11 @@
+pub mod Counting
+pub mod Going
+pub mod Making
+pub mod Marking
+pub mod Narrowness
+pub mod Placing
+pub mod Reducing
+pub mod Refuting
+pub mod Replaying
+pub mod Steps
+pub mod Turning
