@@ -1,0 +1,10 @@
+pub mod Placing
+pub mod Searching
+pub mod Booleans
+pub mod Truths
+pub mod Refuting
+pub mod Keeping
+pub mod Leaving
+pub mod Weights
+pub mod Ending
+pub mod Working

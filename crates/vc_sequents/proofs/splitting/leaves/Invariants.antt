@@ -1,0 +1,10 @@
+use Rattle.std.proofs.Common.{reverse, sum_by}
+use Rattle.vc_sequents.proofs.Ending.{work}
+use Rattle.vc_sequents.proofs.Working.{Progress}
+use Rattle.vc_sequents.proofs.splitting.leaves.Given as goal
+
+abbrev pub invariant-loop-next : goal.invariant-loop-next
+invariant-loop-next l = Progress l.s l.todo.items l.done.items
+
+abbrev pub decreases-loop-next : goal.decreases-loop-next
+decreases-loop-next l = sum_by work (reverse l.todo.items)

@@ -1,0 +1,3 @@
+pub mod Splitting
+pub mod Laws
+pub mod Working

@@ -1,0 +1,14 @@
+//! Sequents, the conditions of components, and how sequents are split.
+#![tactic(auto)]
+
+mod cases;
+mod formulas;
+mod laws;
+mod sequent;
+mod splitting;
+#[cfg(test)]
+mod tests;
+
+pub use laws::{one_leaf_list, splits_keep_validity};
+pub use sequent::{Sequent, SplitError, Vc, VcKind};
+pub use splitting::{leaves, split};

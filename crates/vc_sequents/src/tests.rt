@@ -1,0 +1,142 @@
+//! Each call once where it succeeds, and the rows that tell its meaning.
+
+use crate::{Sequent, SplitError, Vc, VcKind, leaves, split};
+use math_terms::{Boxed, Desc, Formula, Items, Name, NoMemory, Shape, Term, VcName, boxed};
+use std::alloc::Global;
+use std::test::Fail;
+
+/// A variable of type Integer.
+fn integer(alloc: Global, name: &[u8]) -> Result<(Name, Desc), NoMemory> {
+    let desc = Desc {
+        shape: Shape::Z,
+        constraint: Term::Truth(true),
+        initial: Term::Truth(true),
+    };
+    Ok((Name::new(alloc, name)?, desc))
+}
+
+/// A sequent over two Integer variables with at most one hypothesis.
+fn sequent(alloc: Global, hyp: Option<Formula>, goal: Formula) -> Result<Sequent, NoMemory> {
+    let mut vars = Items::new(alloc);
+    vars.push(integer(alloc, b"X")?)?;
+    vars.push(integer(alloc, b"Y")?)?;
+    let mut hyps = Items::new(alloc);
+    if let Some(f) = hyp {
+        hyps.push(f)?;
+    }
+    Ok(Sequent {
+        vars,
+        params: 0,
+        hyps,
+        goal,
+    })
+}
+
+/// `true and .. and true`
+fn conjunction(alloc: Global, conjuncts: u32) -> Result<Formula, NoMemory> {
+    let mut f = Term::Truth(true);
+    for _ in 1..conjuncts {
+        f = and_true(alloc, f)?;
+    }
+    Ok(f)
+}
+
+fn and_true(alloc: Global, f: Formula) -> Result<Formula, NoMemory> {
+    let f = boxed(alloc, f)?;
+    let last = boxed(alloc, Term::Truth(true))?;
+    Ok(Term::And(f, last))
+}
+
+/// `not (v1 = v2)`
+fn unequal(alloc: Global) -> Result<Formula, NoMemory> {
+    let (x, y) = variables(alloc)?;
+    let equation = boxed(alloc, Term::Eq(x, y))?;
+    Ok(Term::Not(equation))
+}
+
+fn variables(alloc: Global) -> Result<(Boxed<Term>, Boxed<Term>), NoMemory> {
+    let x = boxed(alloc, Term::Var(1))?;
+    let y = boxed(alloc, Term::Var(2))?;
+    Ok((x, y))
+}
+
+/// Whether the one hypothesis says that the one variable is below the other.
+fn has_order(s: &Sequent, below: u32, above: u32) -> bool {
+    match s.hyps.get(0) {
+        Some(Term::Less(a, b)) => {
+            is_variable(a.get(), below) && is_variable(b.get(), above) && s.hyps.len() == 1
+        }
+        _ => false,
+    }
+}
+
+fn is_variable(t: &Term, number: u32) -> bool {
+    match t {
+        Term::Var(k) => *k == number,
+        _ => false,
+    }
+}
+
+#[test]
+fn a_goal_of_three_conjuncts_has_three_leaves(rt: HostRuntime) -> Result<(), Fail> {
+    let alloc = rt.alloc();
+    let s = sequent(alloc, None, conjunction(alloc, 3)?)?;
+    assert_eq!(rt; leaves(alloc, &s)?.len(), 3);
+    Ok(())
+}
+
+#[test]
+fn sixty_five_conjuncts_are_too_many_cases(rt: HostRuntime) -> Result<(), Fail> {
+    let alloc = rt.alloc();
+    let s = sequent(alloc, None, conjunction(alloc, 65)?)?;
+    assert!(rt; matches!(leaves(alloc, &s), Err(SplitError::TooManyCases)));
+    Ok(())
+}
+
+#[test]
+fn unequal_integers_are_in_one_order_or_the_other(rt: HostRuntime) -> Result<(), Fail> {
+    let alloc = rt.alloc();
+    let s = sequent(alloc, Some(unequal(alloc)?), Term::Truth(false))?;
+    let parts = split(alloc, &s)?.ok_or("nothing is split")?;
+    assert_eq!(rt; parts.len(), 2);
+    assert!(rt; has_order(&parts[0], 1, 2));
+    assert!(rt; has_order(&parts[1], 2, 1));
+    Ok(())
+}
+
+#[test]
+fn a_true_hypothesis_is_dropped(rt: HostRuntime) -> Result<(), Fail> {
+    let alloc = rt.alloc();
+    let s = sequent(alloc, Some(Term::Truth(true)), Term::Truth(false))?;
+    let parts = split(alloc, &s)?.ok_or("nothing is split")?;
+    assert_eq!(rt; parts.len(), 1);
+    assert_eq!(rt; parts[0].hyps.len(), 0);
+    Ok(())
+}
+
+#[test]
+fn nothing_is_split_of_a_false_goal(rt: HostRuntime) -> Result<(), Fail> {
+    let alloc = rt.alloc();
+    let s = sequent(alloc, None, Term::Truth(false))?;
+    assert!(rt; split(alloc, &s)?.is_none());
+    Ok(())
+}
+
+#[test]
+fn a_copy_of_a_condition_has_its_parts(rt: HostRuntime) -> Result<(), Fail> {
+    let alloc = rt.alloc();
+    let vc = Vc {
+        name: VcName {
+            component: Name::new(alloc, b"Queue")?,
+            part: Name::new(alloc, b"Swap")?,
+            number: 1,
+        },
+        kind: VcKind::Ensures,
+        at: 7,
+        sequent: sequent(alloc, None, Term::Truth(true))?,
+    };
+    let copied = vc.copy(alloc)?;
+    assert_eq!(rt; copied.kind, VcKind::Ensures);
+    assert_eq!(rt; copied.sequent.vars.len(), 2);
+    Ok(())
+}
