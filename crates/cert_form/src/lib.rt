@@ -1,0 +1,6 @@
+//! Certificates: the steps by which a sequent is shown to be valid.
+#![tactic(auto)]
+
+mod cert;
+
+pub use cert::{Cert, NamedCert, Step};
