@@ -1,2 +1,5 @@
 pub mod Meaning
 pub mod Formed
+pub mod Trace
+pub mod Running
+pub mod Samples

@@ -1,8 +1,18 @@
 //! Linked programs, and what they mean.
 #![tactic(auto)]
 
+mod events;
+mod interpreter;
 mod linked;
+mod operators;
+mod running;
+mod state;
+#[cfg(test)]
+mod tests;
 mod trace;
 
-pub use linked::{BinOp, Instance, LExpr, LStmt, Linked, Mode, Proc, Scalar, Spot, TypeForm};
+pub use interpreter::meaning;
+pub use linked::{
+    Argument, BinOp, Instance, LExpr, LStmt, Linked, Mode, Proc, Scalar, Spot, TypeForm,
+};
 pub use trace::{CValue, End, Event, MeaningError, Trace, WrongKind};

@@ -26,12 +26,20 @@ pub enum TypeForm {
     Record(u32, Items<u32>),
 }
 
-/// An instance of a concept. The first is the module of Main.
+/// What an instance has for a parameter of its concept: a type's number, or a number.
+#[derive(Clone, Copy, Debug, PartialEq, Eq)]
+pub enum Argument {
+    OfType(u32),
+    Number(i64),
+}
+
+/// An instance of a concept, with the concept's arguments in order. The first is the module of Main.
 #[derive(Debug, Drop)]
 pub struct Instance {
     pub path: Items<Name>,
     pub concept: Name,
     pub realization: Option<Name>,
+    pub arguments: Items<Argument>,
 }
 
 /// The mode of a parameter.
