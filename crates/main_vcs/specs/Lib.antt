@@ -1,0 +1,4 @@
+pub mod Terms
+pub mod Walk
+pub mod Linking
+pub mod Soundness
