@@ -15,21 +15,42 @@ fn integer(alloc: Global, name: &[u8]) -> Result<(Name, Desc), NoMemory> {
     Ok((Name::new(alloc, name)?, desc))
 }
 
-/// A sequent over two Integer variables with at most one hypothesis.
-fn sequent(alloc: Global, hyp: Option<Formula>, goal: Formula) -> Result<Sequent, NoMemory> {
+/// Two Integer variables.
+fn integers(alloc: Global) -> Result<Items<(Name, Desc)>, NoMemory> {
     let mut vars = Items::new(alloc);
     vars.push(integer(alloc, b"X")?)?;
     vars.push(integer(alloc, b"Y")?)?;
+    Ok(vars)
+}
+
+/// The one hypothesis.
+fn one(alloc: Global, hyp: Formula) -> Result<Items<Formula>, NoMemory> {
     let mut hyps = Items::new(alloc);
-    if let Some(f) = hyp {
-        hyps.push(f)?;
-    }
-    Ok(Sequent {
+    hyps.push(hyp)?;
+    Ok(hyps)
+}
+
+/// A sequent over these variables.
+fn sequent(vars: Items<(Name, Desc)>, hyps: Items<Formula>, goal: Formula) -> Sequent {
+    Sequent {
         vars,
         params: 0,
         hyps,
         goal,
-    })
+    }
+}
+
+/// Conjuncts as a goal without hypotheses.
+fn of_conjuncts(alloc: Global, conjuncts: u32) -> Result<Sequent, NoMemory> {
+    let vars = integers(alloc)?;
+    let goal = conjunction(alloc, conjuncts)?;
+    Ok(sequent(vars, Items::new(alloc), goal))
+}
+
+/// A contradiction that is to be shown of one hypothesis.
+fn of_hypothesis(alloc: Global, hyps: Items<Formula>) -> Result<Sequent, NoMemory> {
+    let vars = integers(alloc)?;
+    Ok(sequent(vars, hyps, Term::Truth(false)))
 }
 
 /// `true and .. and true`
@@ -79,25 +100,23 @@ fn is_variable(t: &Term, number: u32) -> bool {
 
 #[test]
 fn a_goal_of_three_conjuncts_has_three_leaves(rt: HostRuntime) -> Result<(), Fail> {
-    let alloc = rt.alloc();
-    let s = sequent(alloc, None, conjunction(alloc, 3)?)?;
-    assert_eq!(rt; leaves(alloc, &s)?.len(), 3);
+    let s = of_conjuncts(rt.alloc(), 3)?;
+    assert_eq!(rt; leaves(rt.alloc(), &s)?.len(), 3);
     Ok(())
 }
 
 #[test]
 fn sixty_five_conjuncts_are_too_many_cases(rt: HostRuntime) -> Result<(), Fail> {
-    let alloc = rt.alloc();
-    let s = sequent(alloc, None, conjunction(alloc, 65)?)?;
-    assert!(rt; matches!(leaves(alloc, &s), Err(SplitError::TooManyCases)));
+    let s = of_conjuncts(rt.alloc(), 65)?;
+    assert!(rt; matches!(leaves(rt.alloc(), &s), Err(SplitError::TooManyCases)));
     Ok(())
 }
 
 #[test]
 fn unequal_integers_are_in_one_order_or_the_other(rt: HostRuntime) -> Result<(), Fail> {
-    let alloc = rt.alloc();
-    let s = sequent(alloc, Some(unequal(alloc)?), Term::Truth(false))?;
-    let parts = split(alloc, &s)?.ok_or("nothing is split")?;
+    let hyps = one(rt.alloc(), unequal(rt.alloc())?)?;
+    let s = of_hypothesis(rt.alloc(), hyps)?;
+    let parts = split(rt.alloc(), &s)?.ok_or("nothing is split")?;
     assert_eq!(rt; parts.len(), 2);
     assert!(rt; has_order(&parts[0], 1, 2));
     assert!(rt; has_order(&parts[1], 2, 1));
@@ -106,9 +125,9 @@ fn unequal_integers_are_in_one_order_or_the_other(rt: HostRuntime) -> Result<(),
 
 #[test]
 fn a_true_hypothesis_is_dropped(rt: HostRuntime) -> Result<(), Fail> {
-    let alloc = rt.alloc();
-    let s = sequent(alloc, Some(Term::Truth(true)), Term::Truth(false))?;
-    let parts = split(alloc, &s)?.ok_or("nothing is split")?;
+    let hyps = one(rt.alloc(), Term::Truth(true))?;
+    let s = of_hypothesis(rt.alloc(), hyps)?;
+    let parts = split(rt.alloc(), &s)?.ok_or("nothing is split")?;
     assert_eq!(rt; parts.len(), 1);
     assert_eq!(rt; parts[0].hyps.len(), 0);
     Ok(())
@@ -116,26 +135,36 @@ fn a_true_hypothesis_is_dropped(rt: HostRuntime) -> Result<(), Fail> {
 
 #[test]
 fn nothing_is_split_of_a_false_goal(rt: HostRuntime) -> Result<(), Fail> {
-    let alloc = rt.alloc();
-    let s = sequent(alloc, None, Term::Truth(false))?;
-    assert!(rt; split(alloc, &s)?.is_none());
+    let s = of_hypothesis(rt.alloc(), Items::new(rt.alloc()))?;
+    assert!(rt; split(rt.alloc(), &s)?.is_none());
     Ok(())
+}
+
+fn condition_name(alloc: Global) -> Result<VcName, NoMemory> {
+    let component = Name::new(alloc, b"Queue")?;
+    let part = Name::new(alloc, b"Swap")?;
+    Ok(VcName {
+        component,
+        part,
+        number: 1,
+    })
+}
+
+fn condition(alloc: Global) -> Result<Vc, NoMemory> {
+    let name = condition_name(alloc)?;
+    let sequent = of_conjuncts(alloc, 1)?;
+    Ok(Vc {
+        name,
+        kind: VcKind::Ensures,
+        at: 7,
+        sequent,
+    })
 }
 
 #[test]
 fn a_copy_of_a_condition_has_its_parts(rt: HostRuntime) -> Result<(), Fail> {
-    let alloc = rt.alloc();
-    let vc = Vc {
-        name: VcName {
-            component: Name::new(alloc, b"Queue")?,
-            part: Name::new(alloc, b"Swap")?,
-            number: 1,
-        },
-        kind: VcKind::Ensures,
-        at: 7,
-        sequent: sequent(alloc, None, Term::Truth(true))?,
-    };
-    let copied = vc.copy(alloc)?;
+    let vc = condition(rt.alloc())?;
+    let copied = vc.copy(rt.alloc())?;
     assert_eq!(rt; copied.kind, VcKind::Ensures);
     assert_eq!(rt; copied.sequent.vars.len(), 2);
     Ok(())
