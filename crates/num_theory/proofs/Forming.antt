@@ -1,16 +1,16 @@
 -- The form of a term by its head.
-use Rattle.std.proofs.Common.{◌≡◌, ◌∙◌, sym, ap, refl, subst, ℕ, zero, suc, ℤ, pos, negsuc, ◌≤ℤ◌, ◌<ℤ◌, Bool, true, false, if◌then◌else◌, arith}
+use Rattle.std.proofs.Common.{◌≡◌, ◌∙◌, sym, ap, refl, subst, ℕ, zero, suc, ℤ, pos, negsuc, ◌≤ℤ◌, ◌<ℤ◌, Bool, true, false, arith}
 use denote.Ref.{Bor}
 use Rattle.std.proofs.lemmas.Int.{ints}
 use Rattle.math_terms.specs.declared.term.Term.{Term}
 use Rattle.math_terms.specs.declared.term.Term.TheOpen.{Term-F}
 use Rattle.math_terms.specs.declared.term.Term.TheViews.{roll-Term, out-Term, out-roll-Term}
-use Rattle.math_terms.specs.declared.term.Term.TheFolds.{map-Term, fold-Term, ind-Term}
+use Rattle.math_terms.specs.declared.term.Term.TheFolds.{map-Term, ind-Term}
 use Rattle.math_terms.specs.declared.view.Binary.{Binary}
 use Rattle.math_terms.specs.declared.view.Unary.{Unary}
 use Rattle.math_terms.specs.declared.view.View.{View}
 use Rattle.math_terms.specs.Views.{binary_node, unary_node, node_of}
-use Rattle.num_theory.specs.Linear.{Form, Formed, formed, form_step, rebuilt, atom_form, constant_form, plus, times, multiple, product_form, is_constant, remainder_by, remainder_over, remainder_form}
+use Rattle.num_theory.specs.Linear.{Formed, formed, form_step, rebuilt, atom_form, constant_form, plus, times, multiple, product_form, is_constant, remainder_by, remainder_over, remainder_form}
 use Rattle.num_theory.proofs.Heads.{fold_at, map-map}
 
 Rebuilds : Term → Type 0
@@ -167,12 +167,16 @@ remainder_low a b t (pos zero) is low = remainder_term a b t is
 remainder_low a b t (pos (suc n)) is low = absurd (omega (arith, ints))
 remainder_low a b t (negsuc n) is low = remainder_term a b t is
 
+pub remainder_above : (a b : Term) (n : ℕ) → b ≡ roll-Term (Term-F.Num (pos (suc n))) →
+    remainder_by (formed a) (formed b) (pos (suc n)) ≡ plus (formed a).1 (multiple (times (negsuc 0) (constant_form (pos (suc n)))) (atom_form (roll-Term (Term-F.Div a b))))
+remainder_above a b n is =
+    λ i. plus (formed a).1 (multiple (times (negsuc 0) (form_at (Term-F.Num (pos (suc n))) b is i)) (atom_form (roll-Term (Term-F.Div (formed_first a i) (formed_first b i)))))
+
 -- a remainder by a number above 0
 pub remainder_high : (a b : Term) (n : ℤ) → b ≡ roll-Term (Term-F.Num n) → pos 0 <ℤ n →
     remainder_by (formed a) (formed b) n ≡ plus (formed a).1 (multiple (times (negsuc 0) (constant_form n)) (atom_form (roll-Term (Term-F.Div a b))))
 remainder_high a b (pos zero) is high = absurd (omega (arith, ints))
-remainder_high a b (pos (suc n)) is high =
-    λ i. plus (formed a).1 (multiple (times (negsuc 0) (form_at (Term-F.Num (pos (suc n))) b is i)) (atom_form (roll-Term (Term-F.Div (formed_first a i) (formed_first b i)))))
+remainder_high a b (pos (suc n)) is high = remainder_above a b n is
 remainder_high a b (negsuc n) is high = absurd (omega (arith, ints))
 
 -- a remainder by what is no number

@@ -7,3 +7,13 @@ pub mod Adding
 pub mod Forming
 pub mod Placing
 pub mod WellMade
+pub mod Tables
+pub mod Integers
+pub mod Sums
+pub mod FormValues
+pub mod Elements
+pub mod Columns
+pub mod Named
+pub mod RowMeaning
+pub mod Refuting
+pub mod Soundness

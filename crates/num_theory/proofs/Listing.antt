@@ -1,7 +1,7 @@
 -- Texts one after another, and texts byte by byte.
 use Rattle.std.proofs.Common.{◌≡◌, ◌∙◌, sym, ap, refl, ℕ, suc, ◌+◌, ◌<◌, ◌≤◌, ◌==◌, ltb, Bool, true, false, ◌&&◌, ◌||◌, List, [], ◌∷◌, ◌++◌, length, map, take, drop, get_or, codes, append_assoc, arith}
 use Rattle.std.proofs.lemmas.List.{take_more, map-append, drop_all, length-take, length-map}
-use Rattle.std.proofs.lemmas.Bool.{ne_eqb, eq-eqb, lt-ltb, le-ltb}
+use Rattle.std.proofs.lemmas.Bool.{ne_eqb, eq-eqb, le-ltb}
 use Rattle.std.proofs.Math.Seq.{drop-cons}
 use Rattle.math_terms.specs.declared.term.Term.{Term}
 use Rattle.num_theory.specs.Texts.{Piece, piece, text, listed, separator}

@@ -1,5 +1,5 @@
 -- Narrow forms have narrow numbers.
-use Rattle.std.proofs.Common.{◌≡◌, ◌∙◌, sym, ap, subst, ℕ, zero, suc, ℤ, pos, negsuc, Bool, true, false, ◌&&◌, ◌+ℤ◌, List, [], ◌∷◌, refl, cond}
+use Rattle.std.proofs.Common.{◌≡◌, sym, subst, zero, suc, ℤ, pos, negsuc, Bool, true, ◌&&◌, ◌+ℤ◌, List, [], ◌∷◌, cond}
 use Rattle.std.proofs.lemmas.Bool.{and_parts, cond_both}
 use Rattle.math_terms.specs.declared.term.Term.{Term}
 use Rattle.math_terms.specs.declared.term.Term.TheOpen.{Term-F}

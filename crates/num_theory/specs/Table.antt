@@ -3,6 +3,8 @@ use Rattle.std.specs.Prelude.{ℕ, zero, suc, ◌+◌, ◌<◌, ◌⊎◌, ℤ, 
 use Rattle.std.specs.List.{list_any}
 use Rattle.math_terms.specs.declared.name.RowName.{RowName}
 use Rattle.math_terms.specs.declared.name.RowName.TheVariants.{Hyp, Second, Atom}
+use Rattle.num_theory.specs.declared.table.RowError.{RowError}
+use Rattle.num_theory.specs.declared.table.RowError.TheVariants.{TooMany, NoMemory}
 use Rattle.math_terms.specs.declared.descriptor.Sort.{Sort}
 use Rattle.math_terms.specs.declared.term.Term.{Term}
 use Rattle.math_terms.specs.declared.term.Term.TheOpen.{Term-F}
@@ -30,16 +32,20 @@ sums_of_form name shift (Some f) =
 abbrev pub difference : RowName → ℤ → Term → Term → List Sum
 difference name shift left right = sums_of_form name shift (linear_of (roll-Term (Term-F.Sub right left)))
 
--- The rows of formula k. An equation of numbers gives two; a formula that compares nothing gives none.
+-- the two rows of an equation of numbers
+abbrev pub sums_of_equation : List Sort → ℕ → Term → Term → List Sum
+sums_of_equation vars k a b =
+    if is_z (kind vars a) && is_z (kind vars b) then difference (Hyp k) (pos 0) a b ++ difference (Second k) (pos 0) b a else []
+
+-- The rows of formula k. A formula that compares nothing gives none.
+abbrev pub sums_at : List Sort → ℕ → Term-F Term → List Sum
+sums_at vars k (Term-F.LessEq a b) = difference (Hyp k) (pos 0) a b
+sums_at vars k (Term-F.Less a b) = difference (Hyp k) (negsuc 0) a b
+sums_at vars k (Term-F.Eq a b) = sums_of_equation vars k a b
+sums_at vars k x = []
+
 abbrev pub sums_of : List Sort → ℕ → Term → List Sum
-sums_of vars k f = at (out-Term f)
-  where
-    at : Term-F Term → List Sum
-    at (Term-F.LessEq a b) = difference (Hyp k) (pos 0) a b
-    at (Term-F.Less a b) = difference (Hyp k) (negsuc 0) a b
-    at (Term-F.Eq a b) =
-        if is_z (kind vars a) && is_z (kind vars b) then difference (Hyp k) (pos 0) a b ++ difference (Second k) (pos 0) b a else []
-    at x = []
+sums_of vars k f = sums_at vars k (out-Term f)
 
 -- the rows of formulas that are numbered from k on
 abbrev pub sums_from : List Sort → ℕ → List Term → List Sum
@@ -64,37 +70,42 @@ num n = roll-Term (Term-F.Num n)
 abbrev pub less_eq : Term → Term → Term
 less_eq a b = roll-Term (Term-F.LessEq a b)
 
+-- n * q
+abbrev pub multiple_of : ℤ → Term → Term
+multiple_of n q = roll-Term (Term-F.Mul (num n) q)
+
+-- n * q + n - 1
+abbrev pub last_of : ℤ → Term → Term
+last_of n q = roll-Term (Term-F.Sub (roll-Term (Term-F.Add (multiple_of n q) (num n))) (num (pos 1)))
+
 -- n * q <= t and t <= n * q + n - 1, for the quotient q of t by a literal n
 abbrev pub quotient_facts : ℤ → Term → Term → List Term
-quotient_facts n q t = less_eq times t ∷ less_eq t (roll-Term (Term-F.Sub (roll-Term (Term-F.Add times (num n))) (num (pos 1)))) ∷ []
-  where
-    times : Term
-    times = roll-Term (Term-F.Mul (num n) q)
+quotient_facts n q t = less_eq (multiple_of n q) t ∷ less_eq t (last_of n q) ∷ []
 
 -- The facts on an atom: a length is not negative, and a quotient by a literal above 0 is rounded down.
+abbrev pub facts_by : Term → Term → ℤ → List Term
+facts_by atom t (pos (suc n)) = quotient_facts (pos (suc n)) atom t
+facts_by atom t n = []
+
+abbrev pub facts_over : Term → Term → Term-F Term → List Term
+facts_over atom t (Term-F.Num n) = facts_by atom t n
+facts_over atom t x = []
+
+abbrev pub facts_at : Term → Term-F Term → List Term
+facts_at atom (Term-F.Len s) = less_eq (num (pos 0)) atom ∷ []
+facts_at atom (Term-F.Div t n) = facts_over atom t (out-Term n)
+facts_at atom x = []
+
 abbrev pub facts_of : Term → List Term
-facts_of atom = at (out-Term atom)
-  where
-    by_number : Term → ℤ → List Term
-    by_number t (pos (suc n)) = quotient_facts (pos (suc n)) atom t
-    by_number t n = []
-
-    by_literal : Term → Term-F Term → List Term
-    by_literal t (Term-F.Num n) = by_number t n
-    by_literal t x = []
-
-    at : Term-F Term → List Term
-    at (Term-F.Len s) = less_eq (num (pos 0)) atom ∷ []
-    at (Term-F.Div t n) = by_literal t (out-Term n)
-    at x = []
+facts_of atom = facts_at atom (out-Term atom)
 
 -- the row of a fact, which is `left <= right`
+abbrev pub sums_of_fact_at : ℕ → Term-F Term → List Sum
+sums_of_fact_at k (Term-F.LessEq a b) = difference (Atom k) (pos 0) a b
+sums_of_fact_at k x = []
+
 abbrev pub sums_of_fact : ℕ → Term → List Sum
-sums_of_fact k f = at (out-Term f)
-  where
-    at : Term-F Term → List Sum
-    at (Term-F.LessEq a b) = difference (Atom k) (pos 0) a b
-    at x = []
+sums_of_fact k f = sums_of_fact_at k (out-Term f)
 
 -- the rows of facts that are numbered from k on
 abbrev pub sums_of_facts : ℕ → List Term → List Sum
@@ -119,7 +130,7 @@ go_on g None next = g
 go_on g (Some atom) next = next atom
 
 -- with the facts of the atoms from place i on, those of new atoms among them, of so many atoms at most
-abbrev pub with_all_facts : ℕ → ℕ → Gathered → Gathered
+unfoldable pub with_all_facts : ℕ → ℕ → Gathered → Gathered
 with_all_facts zero i g = g
 with_all_facts (suc most) i g = go_on g (slice_get g.atoms i) (λ atom. with_all_facts most (i + 1) (with_facts g atom))
 
@@ -148,3 +159,8 @@ names_of g = map (λ s. s.name) g.sums
 -- more than 63 atoms or more than 256 rows
 abbrev pub IsTooMany : Gathered → Type 0
 IsTooMany g = (63 < length g.atoms) ⊎ (256 < length g.sums)
+
+-- why there is no table
+abbrev pub IsRowRefusal : RowError → Gathered → Type 0
+IsRowRefusal TooMany g = IsTooMany g
+IsRowRefusal NoMemory g = Unit {0}

@@ -9,6 +9,7 @@ ghost use Rattle.num_theory.specs.Lines.{narrow};
 ghost use Rattle.num_theory.specs.Linear as spec;
 ghost use Rattle.num_theory.specs.Making.{form_of};
 
+use crate::vectors::push;
 use math_terms::{Binary, NoMemory, Term, View, boxed, same_terms_are_equal};
 use std::alloc::Global;
 
@@ -48,7 +49,8 @@ fn clipped_product(a: i64, b: i64) -> i64
     clip(i128::from(a) * i128::from(b))
 }
 
-fn is_narrow(number: i64) -> bool
+/// Whether the magnitude is below 2^31.
+pub(crate) fn is_narrow(number: i64) -> bool
     ensures { result ≡ narrow number }
 {
     number > -WIDE && number < WIDE
@@ -67,7 +69,8 @@ fn are_zero(products: &[(i64, Term)]) -> bool
     products.iter().all(|p| p.0 == 0)
 }
 
-fn is_same(a: &Term, b: &Term) -> bool
+/// Whether two terms are the same.
+pub(crate) fn is_same(a: &Term, b: &Term) -> bool
     ensures { result ≡ same_term a.now b.now }
 {
     same_terms_are_equal();
@@ -94,16 +97,7 @@ fn add_product(
             products[k].0 = clipped_sum(products[k].0, coefficient);
             Ok(())
         }
-        None => push(products, coefficient, atom),
-    }
-}
-
-fn push(products: &mut Vec<(i64, Term)>, coefficient: i64, atom: Term) -> Result<(), NoMemory>
-    ensures { OnOk result (products.new.items ≡ products.old.items ++ (coefficient, atom) ∷ []) }
-{
-    match products.push((coefficient, atom)) {
-        Ok(()) => Ok(()),
-        Err(_) => Err(NoMemory),
+        None => push(products, (coefficient, atom)),
     }
 }
 
@@ -139,7 +133,7 @@ fn atom_form(alloc: Global, t: &Term) -> Result<RawForm, NoMemory>
     ensures { IfOk result (λ f. form_of f ≡ spec.atom_form t.now) }
 {
     let mut products = Vec::new(alloc);
-    push(&mut products, 1, t.copy(alloc)?)?;
+    push(&mut products, (1, t.copy(alloc)?))?;
     Ok(made(true, products, 0))
 }
 

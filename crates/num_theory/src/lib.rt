@@ -2,14 +2,21 @@
 //! smaller by.
 #![tactic(auto)]
 
+mod facts;
+mod first_rows;
 mod forms;
+mod gathering;
+mod laws;
 mod linear_form;
 mod row;
 mod table;
 #[cfg(test)]
 mod tests;
 mod texts;
+mod vectors;
 
+pub use first_rows::rows;
+pub use laws::{forms_keep_values, linear_tests_are_sound, refuted_rows_clash, rows_follow};
 pub use linear_form::linear;
 pub use row::{Wide, combine, largest, reduce};
 pub use table::{LinearForm, RowError, RowTable};

@@ -1,27 +1,47 @@
 //! The linear forms of terms.
 
-ghost use Rattle.std.specs.Prelude.{◌≡◌, ◌≤◌, IfOk, IsTrue, OnOk, insert, map, position, vec_len, if◌then◌else◌};
+ghost use Rattle.std.specs.Prelude.{◌≡◌, ◌+ℤ◌, IfOk, IfSome, IsTrue, OnOk, map, position, if◌then◌else◌};
 ghost use Rattle.std.specs.List.{position_or_len};
+ghost use Rattle.math_terms.specs.declared.term.Term.TheOpen.{Term-F};
+ghost use Rattle.math_terms.specs.declared.term.Term.TheViews.{roll-Term};
+ghost use Rattle.math_terms.specs.Descriptors.{Interpretation, value};
+ghost use Rattle.math_terms.specs.Meaning.{Valuation};
+ghost use Rattle.math_terms.specs.Values.{number};
+ghost use Rattle.num_theory.specs.Laws.{sum_of_products};
 ghost use Rattle.num_theory.specs.Lines.{narrow};
 ghost use Rattle.num_theory.specs.Linear as spec;
 ghost use Rattle.num_theory.specs.Making.{IsWellMade, form_of, linear_shown, text_of_product};
 
-use crate::forms::{RawForm, raw_form};
+use crate::forms::{RawForm, difference_form, raw_form};
 use crate::table::LinearForm;
 use crate::texts::{stands_before, text_of};
-use math_terms::{Items, NoMemory, Term};
+use crate::vectors::insert;
+use math_terms::{Items, NoMemory, Term, same_terms_are_equal};
 use std::alloc::Global;
 
 /// The term's linear form. There is none where one of its numbers, or of those of a form that it is made from, has
 /// magnitude 2^31 or more.
 pub fn linear(alloc: Global, t: &Term) -> Result<Option<LinearForm>, NoMemory>
-    ensures { IfOk result (λ form. linear_shown form ≡ spec.linear_of t.now) }
+    ensures exact { IfOk result (λ form. linear_shown form ≡ spec.linear_of t.now) }
+    ensures value { IfOk result (λ form. IfSome form (λ f. (I : Interpretation) (w : Valuation) → number (value I w t.now) ≡ sum_of_products I w f.products +ℤ f.constant)) }
 {
+    same_terms_are_equal();
     shown_form(alloc, raw_form(alloc, t)?)
 }
 
+/// The linear form of the first term minus the second.
+pub(crate) fn linear_difference(
+    alloc: Global,
+    a: &Term,
+    b: &Term,
+) -> Result<Option<LinearForm>, NoMemory>
+    ensures { IfOk result (λ form. linear_shown form ≡ spec.linear_of (roll-Term (Term-F.Sub a.now b.now))) }
+{
+    shown_form(alloc, difference_form(alloc, a, b)?)
+}
+
 /// The form as it is shown, where it is narrow.
-pub(crate) fn shown_form(alloc: Global, form: RawForm) -> Result<Option<LinearForm>, NoMemory>
+fn shown_form(alloc: Global, form: RawForm) -> Result<Option<LinearForm>, NoMemory>
     requires { IsWellMade (form_of form) }
     ensures { IfOk result (λ shown. linear_shown shown ≡ spec.shown_form (form_of form)) }
 {
@@ -89,14 +109,4 @@ fn first_after(text: &[u8], texts: &[Items<u8>]) -> Option<usize>
     texts
         .iter()
         .position(|other| stands_before(text, other.as_slice()))
-}
-
-fn insert<T: Drop>(items: &mut Vec<T>, at: usize, item: T) -> Result<(), NoMemory>
-    requires { at ≤ vec_len items.old }
-    ensures { OnOk result (items.new.items ≡ insert items.old.items at item) }
-{
-    match items.insert(at, item) {
-        Ok(()) => Ok(()),
-        Err(_) => Err(NoMemory),
-    }
 }

@@ -1,7 +1,6 @@
 //! Linear forms and first rows, as values.
 
-use math_terms::{RowName, Term};
-use sqlite_items::Items;
+use math_terms::{Items, NoMemory, RowName, Term};
 
 /// A sum of products of coefficients and atoms, in the order of the atoms' texts, and a constant. No coefficient is 0.
 #[derive(Debug, Drop)]
@@ -23,4 +22,15 @@ pub struct RowTable {
 pub enum RowError {
     TooMany,
     NoMemory,
+}
+
+impl From<NoMemory> for RowError {
+    ghost use Rattle.std.specs.Prelude.{◌≡◌};
+    ghost use Rattle.num_theory.specs.declared.table.RowError.TheVariants.{NoMemory};
+
+    ghost from_gives = { λ _ e. e ≡ NoMemory };
+
+    fn from(_error: NoMemory) -> RowError {
+        RowError::NoMemory
+    }
 }

@@ -1,8 +1,11 @@
 //! Each call once, and the rows that tell its meaning.
 
-use crate::{Wide, combine, largest, linear, reduce};
-use math_terms::{Boxed, NoMemory, Term, boxed};
+ghost use Rattle.std.specs.Prelude.{◌≡◌, IfOk, length};
+
+use crate::{Wide, combine, largest, linear, reduce, rows};
+use math_terms::{Boxed, Formula, Items, NoMemory, RowName, Term, boxed};
 use std::alloc::Global;
+use std::test::Fail;
 
 #[test]
 fn rows_are_reduced_and_their_constants_rounded_down(rt: HostRuntime) {
@@ -62,5 +65,25 @@ fn products_stand_in_the_order_of_their_texts(rt: HostRuntime) -> Result<(), NoM
         }
     }
     assert_eq!(rt; coefficients, [-1, 2]);
+    Ok(())
+}
+
+/// `v1 < v2`
+fn below(alloc: Global) -> Result<Items<Formula>, NoMemory>
+    ensures { IfOk result (λ formulas. length formulas ≡ 1) }
+{
+    let formula = Term::Less(variable(alloc, 1)?, variable(alloc, 2)?);
+    let mut formulas = Items::new(alloc);
+    formulas.push(formula)?;
+    Ok(formulas)
+}
+
+#[test]
+fn a_comparison_is_a_row(rt: HostRuntime) -> Result<(), Fail> {
+    let formulas = below(rt.alloc())?;
+    let table = rows(rt.alloc(), &[], formulas.as_slice())?;
+    let row = table.rows.get(0).ok_or("there is no row")?;
+    assert_eq!(rt; row.as_slice(), [-1, 1, -1].as_slice());
+    assert_eq!(rt; table.names.as_slice(), [RowName::Hyp(1)].as_slice());
     Ok(())
 }

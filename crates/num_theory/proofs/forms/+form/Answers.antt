@@ -1,4 +1,4 @@
-use Rattle.std.proofs.Common.{◌≡◌, ◌∙◌, sym, ap, pos, negsuc, ◌<ℤ◌, ◌≤ℤ◌, SFits, w64, false, arith, rules}
+use Rattle.std.proofs.Common.{◌≡◌, ◌∙◌, sym, ap, pos, negsuc, ◌<ℤ◌, ◌≤ℤ◌, SFits, w64, false, arith}
 use Rattle.std.proofs.lemmas.Int.{to_z-of_z, ints}
 use Rattle.std.proofs.lemmas.Result.{IfOk-weaker}
 use Rattle.math_terms.specs.declared.term.Term.TheOpen.{Term-F}

@@ -1,4 +1,4 @@
-use Rattle.std.proofs.Common.{◌≡◌, ◌∙◌, sym, ◌+ℤ◌, SFits, w64, position, Some, None, rules, arith}
+use Rattle.std.proofs.Common.{◌≡◌, ◌+ℤ◌, SFits, w64, position, Some, None, rules}
 use Rattle.std.proofs.lemmas.Int.{to_z-of_z}
 use Rattle.num_theory.specs.Linear.{clipped}
 use Rattle.num_theory.proofs.Adding.{has, add_product-at, add_product-none}

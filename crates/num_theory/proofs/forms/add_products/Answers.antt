@@ -1,4 +1,4 @@
-use Rattle.std.proofs.Common.{◌≡◌, ◌∙◌, ap, SFits, w64, rules}
+use Rattle.std.proofs.Common.{◌∙◌, ap, SFits, w64, rules}
 use Rattle.std.proofs.lemmas.Int.{to_z-of_z}
 use Rattle.num_theory.specs.Linear.{add_product}
 use Rattle.num_theory.proofs.Adding.{add_products_push}

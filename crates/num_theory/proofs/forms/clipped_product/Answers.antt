@@ -1,7 +1,6 @@
-use Rattle.std.proofs.Common.{◌≡◌, ◌∙◌, ap, ◌^◌, ◌*ℤ◌, SFits, w64, arith, lit<, rules}
+use Rattle.std.proofs.Common.{◌≡◌, ◌^◌, ◌*ℤ◌, SFits, w64, lit<, rules}
 use mir.Syntax.{w128}
 use Rattle.std.proofs.lemmas.Int.{fits_signed_mul, to_z-of_z}
-use Rattle.num_theory.specs.Linear.{clipped}
 use Rattle.num_theory.proofs.Magnitudes.{magnitude_bound64}
 use Rattle.num_theory.proofs.forms.clipped_product.Goals as goal
 

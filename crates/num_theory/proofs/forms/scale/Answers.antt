@@ -1,4 +1,4 @@
-use Rattle.std.proofs.Common.{◌≡◌, ◌∙◌, sym, ap, subst, ℤ, ◌*ℤ◌, SFits, w64, get_or, set, rules, arith}
+use Rattle.std.proofs.Common.{◌≡◌, ◌∙◌, sym, ap, subst, ◌*ℤ◌, SFits, w64, get_or, set, rules, arith}
 use Rattle.std.proofs.lemmas.Int.{to_z-of_z}
 use Rattle.std.proofs.lemmas.List.Edits.{map_over_more}
 use Rattle.num_theory.specs.Linear.{Product, clipped, scaled}

@@ -1,4 +1,4 @@
-use Rattle.std.proofs.Common.{◌≡◌, ◌≤◌, ◌∙◌, sym, ap, length, take, drop, vec_len, SFits, w64, if◌then◌else◌, arith, rules}
+use Rattle.std.proofs.Common.{◌≡◌, ◌∙◌, sym, ap, length, take, drop, vec_len, SFits, w64, if◌then◌else◌, arith, rules}
 use Rattle.std.proofs.lemmas.Int.{to_z-of_z}
 use Rattle.num_theory.specs.Lines.{narrow}
 use Rattle.num_theory.specs.Linear.{Product, insert_product, is_zero, shown}

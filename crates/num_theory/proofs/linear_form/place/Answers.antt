@@ -1,4 +1,4 @@
-use Rattle.std.proofs.Common.{◌≡◌, ◌≤◌, ◌∙◌, sym, ap, pos, false, not, length, map, insert, SFits, of_z, w32, w64, if◌then◌else◌, arith, rules}
+use Rattle.std.proofs.Common.{◌≡◌, ◌∙◌, sym, ap, pos, false, not, map, insert, SFits, of_z, w32, w64, if◌then◌else◌, arith}
 use Rattle.std.specs.List.{position_or_len}
 use Rattle.std.proofs.lemmas.Bool.{false_from_ne_true}
 use Rattle.std.proofs.lemmas.Bool.Decides.{Decides-int_eq}

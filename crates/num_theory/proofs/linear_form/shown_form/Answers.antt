@@ -1,4 +1,4 @@
-use Rattle.std.proofs.Common.{◌≡◌, true, SFits, w32, w64, rules}
+use Rattle.std.proofs.Common.{SFits, w32, w64, rules}
 use Rattle.std.proofs.lemmas.Bool.{not-false}
 use Rattle.std.proofs.lemmas.Int.{to_z-of_z}
 use Rattle.num_theory.proofs.Magnitudes.{narrow_fits}

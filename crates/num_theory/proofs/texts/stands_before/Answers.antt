@@ -1,5 +1,5 @@
-use Rattle.std.proofs.Common.{rules, ◌∙◌, sym, arith}
-use Rattle.num_theory.proofs.Listing.{before_differs, before_same, before_past, before_ends}
+use Rattle.std.proofs.Common.{◌∙◌, sym, arith}
+use Rattle.num_theory.proofs.Listing.{before_past}
 use Rattle.num_theory.proofs.texts.stands_before.Goals as goal
 
 pub returns-then-k-b : goal.returns-then-k-b
