@@ -1,0 +1,15 @@
+pub mod Building
+pub mod ByForm
+pub mod Comparing
+pub mod Counted
+pub mod DescKinds
+pub mod Falling
+pub mod Forms
+pub mod Apart
+pub mod Kinded
+pub mod Laid
+pub mod Lasting
+pub mod Loading
+pub mod Openings
+pub mod PieceOf
+pub mod Telling

@@ -1,0 +1,7 @@
+use Rattle.std.proofs.Common.{refl}
+use Rattle.term_cells.proofs.Loading.{remainder_pushed}
+use Rattle.term_cells.proofs.cells.Cells.remainder.Goals as goal
+
+pub returns-clause-node : goal.returns-clause-node
+returns-clause-node c =
+    remainder_pushed _ _ _ _ _ _ _ c.in_ok-quotient.ensures.pushed c.push.ensures refl refl refl refl refl refl refl
