@@ -20,3 +20,4 @@ pub use laws::{forms_keep_values, linear_tests_are_sound, refuted_rows_clash, ro
 pub use linear_form::linear;
 pub use row::{Wide, combine, largest, reduce};
 pub use table::{LinearForm, RowError, RowTable};
+pub use texts::text_of;

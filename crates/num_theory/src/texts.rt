@@ -10,8 +10,8 @@ use itoa::Buffer;
 use math_terms::{Binary, NoMemory, Term, Unary, View};
 use std::alloc::Global;
 
-/// The term's text.
-pub(crate) fn text_of(alloc: Global, t: &Term) -> Result<Vec<u8>, NoMemory>
+/// The text of a term, with the fewest parentheses and a variable of number n as `vn`: its bytes order atoms.
+pub fn text_of(alloc: Global, t: &Term) -> Result<Vec<u8>, NoMemory>
     ensures { IfOk result (λ text. text.items ≡ spec.text t.now) }
 {
     let mut out = Vec::new(alloc);

@@ -1,9 +1,10 @@
 -- Each sequent has leaves, and the work to find them comes to an end.
-use Rattle.std.proofs.Common.{◌≡◌, ◌∙◌, sym, ap, refl, subst, ℕ, zero, suc, ◌+◌, ◌*◌, ◌<◌, ◌≤◌, List, [], ◌∷◌, ◌++◌, length, Option, Some, None, sum_by, arith}
+use Rattle.std.proofs.Common.{◌≡◌, refl, ℕ, zero, suc, ◌*◌, ◌<◌, ◌≤◌, List, [], ◌∷◌, ◌++◌, length, Option, Some, None, sum_by, arith}
 use Rattle.std.specs.List.{AllByRecursion}
 use Rattle.vc_sequents.specs.declared.sequent.Sequent.{Sequent}
+use Rattle.vc_sequents.specs.Ending.{SplitsEnd, size, tripled, work}
 use Rattle.vc_sequents.specs.Splitting.{Leaves, LeavesOfAll, branch, leaf, more, none, split_of}
-use Rattle.vc_sequents.proofs.Weights.{AreSmaller, size, split_smaller}
+use Rattle.vc_sequents.proofs.Weights.{split_at_smaller, split_smaller}
 
 abbrev HasLeaves : Sequent → Type 0
 HasLeaves s = (ls : List Sequent) × Leaves s ls
@@ -42,11 +43,6 @@ have_leaves (t ∷ ts) =
     let others = have_leaves ts in
     (first.0 ++ others.0, more t ts first.0 others.0 first.1 others.1)
 
--- a power of three
-tripled : ℕ → ℕ
-tripled zero = 1
-tripled (suc n) = 3 * tripled n
-
 one_le : (n : ℕ) → 1 ≤ tripled n
 unfolding tripled
 one_le zero = omega arith
@@ -63,10 +59,6 @@ unfolding tripled
 three_below m zero h = absurd (omega arith)
 three_below m (suc n) h = omega (arith, tripled_le m n (omega arith))
 
--- the work that a sequent may give
-pub work : Sequent → ℕ
-work s = tripled (size s)
-
 few_less_work : (n : ℕ) (ss : List Sequent) → AllByRecursion (λ t. size t < n) ss → length ss ≤ 2 → sum_by work ss < tripled n
 unfolding work
 few_less_work n [] h few = omega (arith, one_le n)
@@ -81,3 +73,11 @@ some_work s = one_le (size s)
 pub split_less_work : (s : Sequent) (ss : List Sequent) → split_of s ≡ Some ss → sum_by work ss < work s
 unfolding work
 split_less_work s ss e = let small = split_smaller s ss e in few_less_work (size s) ss small.smaller small.few
+
+pub splits_end : SplitsEnd
+unfolding work
+splits_end = record {
+  some = some_work;
+  few = λ s k ss e. (split_at_smaller s k ss e).few;
+  less = λ s k ss e. let small = split_at_smaller s k ss e in few_less_work (size s) ss small.smaller small.few;
+}

@@ -1,5 +1,5 @@
 -- Splits keep validity.
-use Rattle.std.proofs.Common.{◌≡◌, ◌∙◌, sym, ap, refl, subst, ℕ, zero, suc, ◌+◌, ◌↔◌, Bool, true, false, not, ◌&&◌, List, [], ◌∷◌, ◌++◌, length, map, Option, Some, None, option_and_then, option_map, slice_get, IsTrue}
+use Rattle.std.proofs.Common.{◌≡◌, ◌∙◌, sym, refl, subst, ℕ, zero, suc, ◌+◌, ◌↔◌, Bool, true, false, not, ◌&&◌, List, [], ◌∷◌, length, map, Option, Some, None, option_and_then, option_map, slice_get, IsTrue}
 use Rattle.std.proofs.lemmas.Bool.{or_parts, or_from}
 use Rattle.std.specs.List.{AllByRecursion, list_all, list_any}
 use Rattle.math_terms.specs.declared.term.Term.{Term}
@@ -8,7 +8,7 @@ use Rattle.math_terms.specs.Descriptors.{Interpretation, IsInterpretation, holds
 use Rattle.math_terms.specs.Laws.{ValuesHaveKinds}
 use Rattle.math_terms.specs.Validity.{lies_from}
 use Rattle.vc_sequents.specs.declared.sequent.Sequent.{Sequent}
-use Rattle.vc_sequents.specs.Splitting.{Cases, GoalCase, IsValidSequent, goal_cases, hypothesis_cases, or_next, sorts_of, split_at, split_from, split_goal, split_hypothesis, split_of, with_case, with_goal_case}
+use Rattle.vc_sequents.specs.Splitting.{Cases, GoalCase, IsValidSequent, goal_cases, hypothesis_cases, or_next, sorts_of, split_at, split_from, split_hypothesis, split_of, with_case, with_goal_case}
 use Rattle.vc_sequents.specs.Laws.{SplitsKeepValidity}
 use Rattle.vc_sequents.proofs.Refuting.{Fits, refuted, split_refuted}
 

@@ -1,5 +1,5 @@
 -- Hypotheses with formulas in the place of one.
-use Rattle.std.proofs.Common.{◌≡◌, ◌∙◌, ap, refl, ℕ, zero, suc, ◌+◌, ◌<◌, List, [], ◌∷◌, ◌++◌, length, take, drop, arith, add-one}
+use Rattle.std.proofs.Common.{◌≡◌, ap, refl, ℕ, zero, suc, ◌+◌, ◌<◌, List, [], ◌∷◌, ◌++◌, length, take, drop, arith, add-one}
 use Rattle.math_terms.specs.declared.term.Term.{Term}
 use Rattle.vc_sequents.specs.Splitting.{in_place}
 

@@ -1,5 +1,5 @@
 -- A sequent and the sequents of its split are refuted by the same valuations.
-use Rattle.std.proofs.Common.{◌≡◌, ◌∙◌, sym, ap, refl, subst, ℕ, zero, suc, Bool, true, false, not, ◌&&◌, List, [], ◌∷◌, ◌++◌, map, Option, Some, None, slice_get, option_and_then, option_map, IsTrue}
+use Rattle.std.proofs.Common.{◌≡◌, ◌∙◌, sym, ap, refl, ℕ, zero, suc, Bool, true, not, ◌&&◌, List, [], ◌∷◌, map, Option, Some, None, slice_get, option_and_then, option_map, IsTrue}
 use Rattle.std.specs.List.{list_all, list_any}
 use Rattle.math_terms.specs.declared.descriptor.Sort.{Sort}
 use Rattle.math_terms.specs.declared.term.Term.{Term}
@@ -11,7 +11,7 @@ use Rattle.math_terms.specs.Kinds.{kind, sort_of_desc}
 use Rattle.math_terms.specs.Laws.{ValuesHaveKinds}
 use Rattle.math_terms.specs.Validity.{lies_from}
 use Rattle.vc_sequents.specs.declared.sequent.Sequent.{Sequent}
-use Rattle.vc_sequents.specs.Splitting.{Cases, GoalCase, goal_cases, hypothesis_cases, in_place, sorts_of, split_at, split_goal, split_hypothesis, with_case, with_goal_case}
+use Rattle.vc_sequents.specs.Splitting.{Cases, GoalCase, goal_cases, hypothesis_cases, in_place, sorts_of, split_at, with_case, with_goal_case}
 use Rattle.vc_sequents.proofs.Booleans.{and_assoc, and-list_any, list_all_append, list_any-and, list_any_map, list_any_same}
 use Rattle.vc_sequents.proofs.Truths.{GoalTells, Tells, b_from_test, goal_tells, hypothesis_tells, placed_hold, z_from_test}
 

@@ -1,5 +1,5 @@
 -- Splitting ends: what a formula gives weighs less than the formula.
-use Rattle.std.proofs.Common.{◌≡◌, ◌∙◌, sym, ap, refl, subst, ℕ, zero, suc, ◌+◌, ◌*◌, ◌<◌, ◌≤◌, Bool, true, false, cond, List, [], ◌∷◌, ◌++◌, length, map, Option, Some, None, slice_get, option_and_then, option_map, sum_by, arith}
+use Rattle.std.proofs.Common.{◌≡◌, sym, ap, refl, subst, ℕ, zero, suc, ◌+◌, ◌*◌, ◌<◌, ◌≤◌, true, false, List, [], ◌∷◌, length, map, Option, Some, None, slice_get, option_and_then, option_map, sum_by, arith}
 use Rattle.std.proofs.lemmas.Bool.{cond_both}
 use Rattle.std.proofs.lemmas.List.{length-map}
 use Rattle.std.proofs.lemmas.List.Sums.{sum_by-append, sum_by-cons}
@@ -8,24 +8,11 @@ use Rattle.math_terms.specs.declared.descriptor.Sort.{Sort}
 use Rattle.math_terms.specs.declared.term.Term.{Term}
 use Rattle.math_terms.specs.declared.term.Term.TheOpen.{Term-F}
 use Rattle.math_terms.specs.declared.term.Term.TheViews.{roll-Term, out-Term}
-use Rattle.math_terms.specs.declared.term.Term.TheFolds.{map-Term, fold-Term, fold-roll-Term, fold_out-Term}
+use Rattle.math_terms.specs.declared.term.Term.TheFolds.{map-Term, fold-roll-Term, fold_out-Term}
 use Rattle.vc_sequents.specs.declared.sequent.Sequent.{Sequent}
+use Rattle.vc_sequents.specs.Ending.{size, weight, weight_step}
 use Rattle.vc_sequents.specs.Splitting.{Cases, GoalCase, and as and_of, form_cases, form_goals, goal_cases, hypothesis_cases, implies as implies_of, in_place, less, less_eq, negation_cases, not as not_of, of_numbers, of_truths, one_case, one_goal, or as or_of, sorts_of, split_at, split_of, truth as truth_of, two_cases, two_goals, with_case, with_goal_case}
 use Rattle.vc_sequents.proofs.Keeping.{split_from_at}
-
-abbrev weight_step : Term-F ℕ → ℕ
-weight_step (Term-F.Truth b) = 1
-weight_step (Term-F.Eq a b) = 2 * a + 2 * b + 5
-weight_step (Term-F.Less a b) = 1
-weight_step (Term-F.LessEq a b) = 1
-weight_step (Term-F.Not a) = 2 * a + 2
-weight_step (Term-F.And a b) = 2 * a + b + 5
-weight_step (Term-F.Or a b) = 2 * a + b + 5
-weight_step (Term-F.Implies a b) = 2 * a + b + 3
-weight_step x = 0
-
-abbrev pub weight : Term → ℕ
-weight t = fold-Term ℕ weight_step t
 
 abbrev weight_of_node : Term-F Term → ℕ
 weight_of_node x = weight_step (map-Term Term ℕ weight x)
@@ -129,10 +116,6 @@ module _ (vars : List Sort) where
   goal_lighter : (f : Term) → GoalLighter (weight f) (goal_cases vars f)
   goal_lighter f = subst (λ n. GoalLighter n (goal_cases vars f)) (sym (weight_out f)) (form_goals_lighter (out-Term f))
 
--- the weight of a sequent
-abbrev pub size : Sequent → ℕ
-size s = sum_by weight s.hyps + weight s.goal
-
 placed_weight : (k : ℕ) (hyps : List Term) (f : Term) (new : List Term) → slice_get hyps k ≡ Some f → sum_by weight (in_place k new hyps) + weight f ≡ sum_by weight hyps + sum_by weight new
 placed_weight k [] f new at = cc
 placed_weight zero (g ∷ gs) f new at =
@@ -171,7 +154,7 @@ module _ (s : Sequent) where
       let made : map (with_goal_case s) cs ≡ ss = cc in
       subst (AreSmaller s) made (record { smaller = goal_cases_smaller cs h.0; few = omega (arith, length-map cs (with_goal_case s), h.1) })
 
-  split_at_smaller : (k : ℕ) (ss : List Sequent) → split_at k s ≡ Some ss → AreSmaller s ss
+  pub split_at_smaller : (k : ℕ) (ss : List Sequent) → split_at k s ≡ Some ss → AreSmaller s ss
   split_at_smaller zero ss e = from_goal_cases (goal_cases (sorts_of s) s.goal) ss (goal_lighter (sorts_of s) s.goal) e
   split_at_smaller (suc k) ss e = from_hypothesis k (slice_get s.hyps k) ss refl e
 

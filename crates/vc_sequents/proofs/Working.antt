@@ -1,5 +1,5 @@
 -- How far the work has come that gives the leaves of a sequent.
-use Rattle.std.proofs.Common.{◌≡◌, ◌∙◌, sym, ap, refl, subst, ℕ, ◌+◌, ◌<◌, ◌≤◌, List, [], ◌∷◌, ◌++◌, length, reverse, Option, Some, None, MatchOption, sum_by, append_assoc, length-append, arith}
+use Rattle.std.proofs.Common.{◌≡◌, ◌∙◌, sym, ap, refl, subst, ◌<◌, ◌≤◌, List, [], ◌∷◌, ◌++◌, length, reverse, Option, Some, None, MatchOption, sum_by, append_assoc, length-append, arith}
 use Rattle.std.proofs.lemmas.List.{reverse-append}
 use Rattle.std.proofs.lemmas.List.Sums.{sum_by-append, sum_by-cons}
 use Rattle.vc_sequents.specs.declared.sequent.Sequent.{Sequent}
@@ -8,7 +8,8 @@ use Rattle.vc_sequents.specs.declared.sequent.SplitError.TheVariants.{TooManyCas
 use Rattle.vc_sequents.specs.Splitting.{Leaves, LeavesOfAll, branch, leaf, more, none, split_of}
 use Rattle.vc_sequents.specs.Laws.{AreLeaves, IsSplitRefusal, SplitsKeepValidity}
 use Rattle.vc_sequents.specs.Working.{AddsLeaf, PutsParts, IsStep, IsStepRefusal}
-use Rattle.vc_sequents.proofs.Ending.{have_leaves, some_work, split_less_work, work}
+use Rattle.vc_sequents.specs.Ending.{work}
+use Rattle.vc_sequents.proofs.Ending.{have_leaves, some_work, split_less_work}
 use Rattle.vc_sequents.proofs.Leaving.{Parted, leaves_keep, parted}
 
 -- the leaves so far, with those of what is to be done, are the leaves of the sequent

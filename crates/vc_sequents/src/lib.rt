@@ -9,6 +9,6 @@ mod splitting;
 #[cfg(test)]
 mod tests;
 
-pub use laws::{one_leaf_list, splits_keep_validity};
+pub use laws::{one_leaf_list, splits_end, splits_keep_validity};
 pub use sequent::{Sequent, SplitError, Vc, VcKind};
-pub use splitting::{leaves, split};
+pub use splitting::{leaves, split, split_formula};

@@ -1,8 +1,10 @@
 //! Sequents and conditions.
 
 ghost use Rattle.std.specs.Prelude.{◌≡◌, IfOk};
+ghost use Rattle.vc_sequents.specs.Splitting.{sorts_of};
 
-use math_terms::{Desc, Formula, Name, NoMemory, VcName, copy_terms};
+use crate::splitting::sorts_of;
+use math_terms::{Desc, Formula, Name, NoMemory, Sort, VcName, copy_terms};
 use sqlite_items::Items;
 use std::alloc::{AllocError, Global};
 
@@ -62,6 +64,15 @@ impl Sequent {
             hyps: copy_terms(alloc, self.hyps.as_slice())?,
             goal: self.goal.copy(alloc)?,
         })
+    }
+}
+
+impl Sequent {
+    /// The sorts of the variables.
+    pub fn sorts(&self, alloc: Global) -> Result<Items<Sort>, NoMemory>
+        ensures { IfOk result (λ ss. ss ≡ sorts_of self.now) }
+    {
+        sorts_of(alloc, self.vars.as_slice())
     }
 }
 

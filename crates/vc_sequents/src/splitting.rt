@@ -3,7 +3,7 @@
 ghost use Rattle.std.specs.Prelude.{◌≡◌, ◌↔◌, ◌<◌, ◌≤◌, [], ◌∷◌, ◌++◌, IfErr, IfOk, IfSome, MatchOption, None, OnOk, Some, length, map, reverse, vec_len};
 ghost use Rattle.std.specs.List.{AllByRecursion};
 ghost use Rattle.math_terms.specs.Kinds.{sort_of_desc};
-ghost use Rattle.vc_sequents.specs.Splitting.{IsValidSequent, in_place, sorts_of, split_goal, split_hypothesis, split_of, with_case, with_goal_case};
+ghost use Rattle.vc_sequents.specs.Splitting.{IsValidSequent, in_place, sorts_of, split_at, split_goal, split_hypothesis, split_of, with_case, with_goal_case};
 ghost use Rattle.vc_sequents.specs.Laws.{AreLeaves, IsSplitRefusal};
 ghost use Rattle.vc_sequents.specs.Working.{IsStep, IsStepRefusal};
 
@@ -36,6 +36,26 @@ fn first_split(alloc: Global, s: &Sequent) -> Result<Option<Vec<Sequent>>, NoMem
         }
     }
     split_goal(alloc, s, sorts.as_slice())
+}
+
+/// The sequents that one formula gives: the hypothesis of this number, from 1, or with 0 the goal. It is none where that gives
+/// nothing, or is not there. The sorts are those of the sequent's variables.
+pub fn split_formula(
+    alloc: Global,
+    s: &Sequent,
+    sorts: &[Sort],
+    k: usize,
+) -> Result<Option<Vec<Sequent>>, NoMemory>
+    requires { sorts.now ≡ sorts_of s.now }
+    ensures { IfOk result (λ o. MatchOption o (split_at k s.now ≡ None) (λ ss. split_at k s.now ≡ Some ss.items)) }
+{
+    if k == 0 {
+        return split_goal(alloc, s, sorts);
+    }
+    if k > s.hyps.len() {
+        return Ok(None);
+    }
+    split_hypothesis(alloc, s, sorts, k - 1)
 }
 
 /// The sequents that come of the sequent where nothing is left to be split, in their order.
@@ -128,7 +148,7 @@ fn split_goal(alloc: Global, s: &Sequent, sorts: &[Sort]) -> Result<Option<Vec<S
 }
 
 /// The sorts of the variables.
-fn sorts_of(alloc: Global, vars: &[(Name, Desc)]) -> Result<Items<Sort>, NoMemory>
+pub(crate) fn sorts_of(alloc: Global, vars: &[(Name, Desc)]) -> Result<Items<Sort>, NoMemory>
     ensures { IfOk result (λ ss. ss ≡ map (λ v. sort_of_desc v.1) vars.now) }
 {
     let mut out = Items::new(alloc);

@@ -1,5 +1,5 @@
 use Rattle.std.proofs.Common.{reverse, sum_by}
-use Rattle.vc_sequents.proofs.Ending.{work}
+use Rattle.vc_sequents.specs.Ending.{work}
 use Rattle.vc_sequents.proofs.Working.{Progress}
 use Rattle.vc_sequents.proofs.splitting.leaves.Given as goal
 

@@ -1,0 +1,14 @@
+pub mod Allowing
+pub mod Alone
+pub mod Choosing
+pub mod Columns
+pub mod Enough
+pub mod Firsts
+pub mod Fuel
+pub mod Gathering
+pub mod Legal
+pub mod Refuting
+pub mod Names
+pub mod Narrow
+pub mod Replay
+pub mod Standing

@@ -1,0 +1,4 @@
+pub mod Laws
+pub mod Refusal
+pub mod Search
+pub mod Working

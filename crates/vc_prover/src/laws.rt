@@ -1,0 +1,17 @@
+//! Laws of the definitions. The functions do nothing: their contracts are what is proved.
+
+ghost use Rattle.vc_prover.specs.Laws.{FoundIsLegal, OneSearch};
+
+use linear_prover::refutations_refute;
+
+/// A search finds one list of steps.
+pub fn one_search()
+    ensures { OneSearch }
+{}
+
+/// The steps that a search finds are a legal certificate.
+pub fn found_is_legal()
+    ensures { FoundIsLegal }
+{
+    refutations_refute();
+}

@@ -1,0 +1,12 @@
+//! The search for certificates.
+#![tactic(auto)]
+
+mod closing;
+mod laws;
+mod linear;
+mod search;
+#[cfg(test)]
+mod tests;
+
+pub use laws::{found_is_legal, one_search};
+pub use search::{ProveError, prove};
