@@ -249,11 +249,10 @@ module _ (hyps : ℕ) where
   each_found : (ss : List Sum) → AllByRecursion (λ r. is_goal r.name ≡ false) ss → Distinct ss → AllByRecursion (IsFoundIn ss) ss
   unfolding IsFoundIn
   each_found [] named distinct = tt
-  each_found (s ∷ ss) named distinct =
-      (
-        cond-true (same_name (name_among hyps s.name) (name_among hyps s.name)) (Some s) (find_row hyps (name_among hyps s.name) ss) (same_name_same (name_among hyps s.name)),
-        all_behind s ss ss named.0 named.1 distinct.0 (each_found ss named.1 distinct.1),
-      )
+  each_found (s ∷ ss) named distinct = (
+    cond-true (same_name (name_among hyps s.name) (name_among hyps s.name)) (Some s) (find_row hyps (name_among hyps s.name) ss) (same_name_same (name_among hyps s.name)),
+    all_behind s ss ss named.0 named.1 distinct.0 (each_found ss named.1 distinct.1),
+  )
 
   rows_found : (all rs : List Sum) → AllByRecursion (IsFoundIn all) rs → find_rows hyps all (map (λ r. name_among hyps r.name) rs) ≡ Some rs
   unfolding IsFoundIn

@@ -208,14 +208,13 @@ used_more l ls (m ∷ rest) h =
 
 all_used : (ls : List Line) → AllByRecursion (λ (m : Line). (is_used m.i ls ≡ true) × (is_used m.j ls ≡ true)) ls
 all_used [] = tt
-all_used (l ∷ ls) =
-    (
-      (
-        or_left ((l.i == l.i) || (l.j == l.i)) (is_used l.i ls) (or_left (l.i == l.i) (l.j == l.i) (eq-eqb l.i l.i refl)),
-        or_left ((l.i == l.j) || (l.j == l.j)) (is_used l.j ls) (or_right (l.i == l.j) (l.j == l.j) (eq-eqb l.j l.j refl)),
-      ),
-      used_more l ls ls (all_used ls),
-    )
+all_used (l ∷ ls) = (
+  (
+    or_left ((l.i == l.i) || (l.j == l.i)) (is_used l.i ls) (or_left (l.i == l.i) (l.j == l.i) (eq-eqb l.i l.i refl)),
+    or_left ((l.i == l.j) || (l.j == l.j)) (is_used l.j ls) (or_right (l.i == l.j) (l.j == l.j) (eq-eqb l.j l.j refl)),
+  ),
+  used_more l ls ls (all_used ls),
+)
 
 module _ (atoms : List Term) (sums : List Sum) (lines : List Line) where
   abbrev named : List Sum

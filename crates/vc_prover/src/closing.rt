@@ -14,11 +14,7 @@ use std::alloc::Global;
 use vc_sequents::Sequent;
 
 /// How the sequent is closed, and none where it is not. The sorts are those of its variables.
-pub(crate) fn closing(
-    alloc: Global,
-    s: &Sequent,
-    sorts: &[Sort],
-) -> Result<Option<Step>, NoMemory>
+pub(crate) fn closing(alloc: Global, s: &Sequent, sorts: &[Sort]) -> Result<Option<Step>, NoMemory>
     requires few { length s.now.hyps < 2 ^ 31 }
     requires sorts_of_vars { sorts.now ≡ sorts_of s.now }
     ensures { IfOk result (λ o. o ≡ spec.closing s.now) }
