@@ -1,0 +1,17 @@
+pub mod Alike
+pub mod Completes
+pub mod Ending
+pub mod ExprRuns
+pub mod GuardRuns
+pub mod Headings
+pub mod Histories
+pub mod ModuleRuns
+pub mod Moves
+pub mod Naming
+pub mod Prefixes
+pub mod Reaches
+pub mod Refusals
+pub mod Runs
+pub mod Spelled
+pub mod StmtRuns
+pub mod Tables

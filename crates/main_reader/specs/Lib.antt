@@ -1,0 +1,6 @@
+pub mod Laws
+pub mod Marks
+pub mod Progress
+pub mod States
+pub mod Steps
+pub mod Variables
