@@ -1,0 +1,11 @@
+mod Choosing
+mod Counted
+mod Declaring
+mod FirstOnes
+mod Forming
+mod Going
+mod Parts
+mod Starting
+mod Stepping
+mod Valid
+mod Walking

@@ -1,0 +1,5 @@
+use Rattle.main_prover.proofs.Going.{memory_judges}
+use Rattle.main_prover.proofs.judge.Judge.run.Goals as goal
+
+pub returns-in_err-path : goal.returns-in_err-path
+returns-in_err-path c = memory_judges c.args.m.now _ c.args.self.now c.args.self.now c.from_residual.result (c.from_residual.ensures).1

@@ -1,0 +1,9 @@
+use Rattle.main_vcs.specs.Terms.{add}
+use Rattle.main_prover.specs.Points.{point_of}
+use Rattle.main_prover.proofs.Going.{after_ok, memory_sum}
+use Rattle.main_prover.proofs.judge.Judge.sum.Goals as goal
+
+pub returns-in_err-t : goal.returns-in_err-t
+returns-in_err-t c =
+    after_ok c.args.m.now c.args.b c.in_ok-b.b _ _ c.in_ok-b.was
+    (memory_sum c.args.m.now c.args.at (point_of c.args.path.now) (add c.args.a c.in_ok-b.b) c.args.self.now _ _ (c.from_residual-in_err-t.ensures).1)
