@@ -1,176 +1,143 @@
--- The words have one answer over the files.
-use Rattle.std.proofs.Common.{◌≡◌, ◌∙◌, sym, ap, refl, subst, ℕ, ◌≤◌, ◌<◌, List, [], length, Option, Some, None, inl, inr, arith}
-use Rattle.std.specs.Prelude.{◌⊎◌, option_map}
+-- The words have one answer over the files and the input.
+use Rattle.std.proofs.Common.{◌≡◌, ◌∙◌, sym, ap, refl, subst, ℕ, ◌≤◌, ◌<◌, ℤ, List, [], length, Option, Some, None, Result, Ok, Err, arith}
+use Rattle.std.specs.Prelude.{slice_get}
+use Rattle.edge_io.specs.declared.numbers.InputError.{InputError}
 use Rattle.edge_io.specs.Files.{Files}
+use Rattle.edge_io.specs.Numbers.{reading}
 use Rattle.res_lexer.specs.declared.token.TokenKind.{TokenKind}
 use Rattle.res_lexer.specs.declared.token.LexError.{LexError}
 use Rattle.res_lexer.specs.Tokens.{Refuses}
-use Rattle.resolve_cli.specs.declared.module.Module.{Module}
+use Rattle.stack_machine.specs.Lines.{lines}
+use Rattle.stack_machine.specs.Machine.{State, after}
+use Rattle.main_form.specs.declared.module.Module.{Module}
+use Rattle.main_form.specs.Spelling.{IsNotYet, IsRefusedAt, kinds_in, place_or}
+use Rattle.main_prover.specs.Proving.{NoneFirst, OneFirst}
+use Rattle.main_reader.specs.Laws.{OneRefusal}
+use Rattle.command_words.specs.Words.{Other, Run, Word, command, read_words}
 use Rattle.resolve_cli.specs.declared.status.Status.{Status}
 use Rattle.resolve_cli.specs.declared.status.Status.TheVariants as status
-use Rattle.resolve_cli.specs.Form.{kinds, IsRefusedAt, IsNotYet, place_of}
-use Rattle.resolve_cli.specs.Condition.{IsProvedForm}
+use Rattle.resolve_cli.specs.Answer.{Answers, FileAnswer, ModuleAnswer, RunAnswer, TextAnswer, bad_input, file, halted, image_of, long, no_file, no_reading, no_tokens, not_built, not_yet, ran, short, spelled, spent, too_long, unproved}
 use Rattle.resolve_cli.specs.Texts.{lex_line, not_yet_line, unproved_line}
-use Rattle.resolve_cli.specs.Words.{Word, Run, Other, command, command_of, read_words}
-use Rattle.resolve_cli.specs.Answer.{TextAnswers, Answers, most_component_bytes, IsRefusedWith}
-use Rattle.resolve_cli.specs.Resolves.{Answered, Got}
-use Rattle.resolve_cli.proofs.Answering.{Laws, same_module, no_tokens_spelled, not_yet_spelled, module_only, same_file, no_words, no_other, no_file, same_text}
+use Rattle.resolve_cli.proofs.Stages as stages
+use Rattle.resolve_cli.proofs.Stages.{TextLaws, no_tokens_spelled, not_yet_spelled, same_command, same_module, same_name, same_steps, same_text}
 
--- the laws that two refusals of one text are one
+-- the laws that two refusals are one
 pub record RefusalLaws : Type 0 where
+  pub texts : TextLaws
   pub one_refusal : (bytes : List ℕ) (e f : LexError) → Refuses bytes e → Refuses bytes f → e ≡ f
-  pub one_place : (ks : List TokenKind) (j k : ℕ) → IsRefusedAt ks j → IsRefusedAt ks k → j ≡ k
+  pub one_place : OneRefusal
+  pub one_first : OneFirst
+  pub none_first : NoneFirst
 
-module _ (laws : Laws) (refusals : RefusalLaws) (name bytes : List ℕ) where
-  no_form_refused : (e : LexError) (at : ℕ) → Refuses bytes e → IsNotYet bytes at → ⊥
-  no_form_refused e at refuses (ts, k, are, refused, place) = laws.read_or_refused bytes ts e are refuses
+abbrev Both : Status → Status → List ℕ → List ℕ → Type 0
+Both s t o p = (s ≡ t) × (o ≡ p)
 
-  one_place_of : (at to : ℕ) → IsNotYet bytes at → IsNotYet bytes to → at ≡ to
-  one_place_of at to (ts, k, are, refused, place) (us, j, are', refused', place') =
-      let same = laws.one_reading bytes ts us are are' in
-      let places = refusals.one_place (kinds us) k j (subst (λ vs. IsRefusedAt (kinds vs) k) same refused) refused' in
-      place ∙ ap (λ vs. place_of vs (length bytes) k) same ∙ ap (λ i. place_of us (length bytes) i) places ∙ sym place'
+both : (s t u : Status) (o p q : List ℕ) → s ≡ u → t ≡ u → o ≡ q → p ≡ q → Both s t o p
+both s t u o p q is is' lined lined' = (is ∙ sym is', lined ∙ sym lined')
 
-  one_line : (l k : List ℕ) → IsRefusedWith name bytes l → IsRefusedWith name bytes k → l ≡ k
-  one_line l k (inl (e, refuses, is)) (inl (f, refuses', is')) = is ∙ ap (lex_line name) (refusals.one_refusal bytes e f refuses refuses') ∙ sym is'
-  one_line l k (inl (e, refuses, is)) (inr (inl (at, not, is'))) = absurd (no_form_refused e at refuses not)
-  one_line l k (inl (e, refuses, is)) (inr (inr (m, spells, open_, is'))) = absurd (no_tokens_spelled laws bytes m e spells refuses)
-  one_line l k (inr (inl (at, not, is))) (inl (f, refuses', is')) = absurd (no_form_refused f at refuses' not)
-  one_line l k (inr (inl (at, not, is))) (inr (inl (to, not', is'))) = is ∙ ap (not_yet_line name) (one_place_of at to not not') ∙ sym is'
-  one_line l k (inr (inl (at, not, is))) (inr (inr (m, spells, open_, is'))) = absurd (not_yet_spelled laws bytes m at spells not)
-  one_line l k (inr (inr (m, spells, open_, is))) (inl (f, refuses', is')) = absurd (no_tokens_spelled laws bytes m f spells refuses')
-  one_line l k (inr (inr (m, spells, open_, is))) (inr (inl (to, not', is'))) = absurd (not_yet_spelled laws bytes m to spells not')
-  one_line l k (inr (inr (m, spells, open_, is))) (inr (inr (n, spells', open', is'))) =
-      is ∙ ap (λ (q : Module). unproved_line q.form.name q.end_at) (same_module laws bytes m n spells spells') ∙ sym is'
+both_none : (s t u v : Status) (o p : List ℕ) → s ≡ u → t ≡ v → u ≡ v → o ≡ [] → p ≡ [] → Both s t o p
+both_none s t u v o p is is' same nothing nothing' = (is ∙ same ∙ sym is', nothing ∙ sym nothing')
 
-  -- a module that is proved is not refused
-  not_both : (out : List ℕ) (line : List ℕ) → TextAnswers name bytes status.Done out → IsRefusedWith name bytes line → ⊥
-  not_both out line (m, written, spells, proved, halts, is) (inl (e, refuses, w)) = no_tokens_spelled laws bytes m e spells refuses
-  not_both out line (m, written, spells, proved, halts, is) (inr (inl (at, not, w))) = not_yet_spelled laws bytes m at spells not
-  not_both out line (m, written, spells, proved, halts, is) (inr (inr (n, spells', open_, w))) =
-      open_ (subst (λ (q : Module). IsProvedForm q.form) (same_module laws bytes m n spells spells') proved)
+same_some : {A : Type 0} (o : Option A) (a b : A) → o ≡ Some a → o ≡ Some b → a ≡ b
+same_some o a b e f = let g : Some a ≡ Some b = sym e ∙ f in cc
 
-  done_once : (out to : List ℕ) → TextAnswers name bytes status.Done out → TextAnswers name bytes status.Done to → out ≡ to
-  done_once out to (m, written, spells, proved, halts, is) b =
-      module_only laws name bytes m spells proved status.Done out (m, written, spells, proved, halts, is) ∙ sym (module_only laws name bytes m spells proved status.Done to b)
+same_ok : (r : Result (List ℤ) InputError) (a b : List ℤ) → r ≡ Ok a → r ≡ Ok b → a ≡ b
+same_ok r a b e f = let g : Result.Ok a ≡ Result.Ok b = sym e ∙ f in cc
 
--- an answer is this status with these bytes
-abbrev Is : Status → List ℕ → Status → List ℕ → Type 0
-Is t p s o = (s ≡ t) × (o ≡ p)
+same_err : (r : Result (List ℤ) InputError) (a b : InputError) → r ≡ Err a → r ≡ Err b → a ≡ b
+same_err r a b e f = let g : Result.Err a ≡ Result.Err b = sym e ∙ f in cc
 
-module _ (words : List Word) (files : Files) where
-  only_bad : read_words words ≡ None → (s : Status) (o : List ℕ) → Answers words files s o → Is status.BadWords [] s o
-  only_bad e status.BadWords o (f, x) = (refl, x)
-  only_bad e status.NotBuilt o (f, x) = let g : None ≡ Some Other = ap (option_map command_of) (sym e) ∙ f in absurd (cc)
-  only_bad e (status.NotFound n) o (f, none, x) = absurd (no_words words n e f)
-  only_bad e (status.FileTooLong n) o (f, bytes, held, long, x) = absurd (no_words words n e f)
-  only_bad e (status.Refused line) o (n, bytes, runs, answers) = absurd (no_words words n e runs.says)
-  only_bad e status.Done o (n, bytes, runs, answers) = absurd (no_words words n e runs.says)
-  only_bad e status.ShelfFault o h = absurd h
-  only_bad e status.SinkFault o h = absurd h
-  only_bad e status.NoMemory o h = absurd h
+ok_not_err : (r : Result (List ℤ) InputError) (a : List ℤ) (b : InputError) → r ≡ Ok a → r ≡ Err b → ⊥
+ok_not_err r a b e f = let g : Result.Ok a ≡ Result.Err b = sym e ∙ f in absurd (cc)
 
-  only_other : command words ≡ Some Other → (s : Status) (o : List ℕ) → Answers words files s o → Is status.NotBuilt [] s o
-  only_other e status.BadWords o (f, x) = let g : None ≡ Some Other = ap (option_map command_of) (sym f) ∙ e in absurd (cc)
-  only_other e status.NotBuilt o (f, x) = (refl, x)
-  only_other e (status.NotFound n) o (f, none, x) = absurd (no_other words n e f)
-  only_other e (status.FileTooLong n) o (f, bytes, held, long, x) = absurd (no_other words n e f)
-  only_other e (status.Refused line) o (n, bytes, runs, answers) = absurd (no_other words n e runs.says)
-  only_other e status.Done o (n, bytes, runs, answers) = absurd (no_other words n e runs.says)
-  only_other e status.ShelfFault o h = absurd h
-  only_other e status.SinkFault o h = absurd h
-  only_other e status.NoMemory o h = absurd h
+run_one : (m : Module) (numbers : List ℤ) (steps : ℕ) (s t : Status) (o p : List ℕ) → RunAnswer m numbers steps s o → RunAnswer m numbers steps t p → Both s t o p
+run_one m numbers steps s t o p (halted a reached over is lined) (halted b reached' over' is' lined') =
+    let same = same_some (after (image_of m) numbers steps) a b reached reached' in
+    both s t status.Done o p (lines b.output) is is' (lined ∙ ap (λ (x : State). lines x.output) same) lined'
+run_one m numbers steps s t o p (halted a reached over is lined) (spent b reached' goes is' lined') =
+    let same = same_some (after (image_of m) numbers steps) a b reached reached' in
+    absurd (goes (subst (λ (x : State). x.frames ≡ []) same over))
+run_one m numbers steps s t o p (spent a reached goes is lined) (halted b reached' over is' lined') =
+    let same = same_some (after (image_of m) numbers steps) b a reached' reached in
+    absurd (goes (subst (λ (x : State). x.frames ≡ []) same over))
+run_one m numbers steps s t o p (spent a reached goes is lined) (spent b reached' goes' is' lined') =
+    let same = same_some (after (image_of m) numbers steps) a b reached reached' in
+    both s t (status.StepsSpent steps) o p (lines b.output) is is' (lined ∙ ap (λ (x : State). lines x.output) same) lined'
 
-  module _ (name : List ℕ) (says : command words ≡ Some (Run name)) where
-    only_missing : files name ≡ None → (s : Status) (o : List ℕ) → Answers words files s o → Is (status.NotFound name) [] s o
-    only_missing e status.BadWords o (f, x) = absurd (no_words words name f says)
-    only_missing e status.NotBuilt o (f, x) = absurd (no_other words name f says)
-    only_missing e (status.NotFound n) o (f, none, x) = (ap (λ k. status.NotFound k) (same_file words n name f says), x)
-    only_missing e (status.FileTooLong n) o (f, bytes, held, long, x) = absurd (no_file files name bytes e (ap files (sym (same_file words n name f says)) ∙ held))
-    only_missing e (status.Refused line) o (n, bytes, runs, answers) = absurd (no_file files name bytes e (ap files (sym (same_file words n name runs.says says)) ∙ runs.holds))
-    only_missing e status.Done o (n, bytes, runs, answers) = absurd (no_file files name bytes e (ap files (sym (same_file words n name runs.says says)) ∙ runs.holds))
-    only_missing e status.ShelfFault o h = absurd h
-    only_missing e status.SinkFault o h = absurd h
-    only_missing e status.NoMemory o h = absurd h
+module _ (laws : RefusalLaws) where
+  module_one : (m : Module) (steps : ℕ) (input : List ℕ) (s t : Status) (o p : List ℕ) → ModuleAnswer m steps input s o → ModuleAnswer m steps input t p → Both s t o p
+  module_one m steps input s t o p (unproved u first is nothing) (unproved v first' is' nothing') =
+      both_none s t _ _ o p is is' (ap (λ x. status.Refused (unproved_line m.name x)) (laws.one_first m u v first first')) nothing nothing'
+  module_one m steps input s t o p (unproved u first is nothing) (too_long accepted many is' nothing') = absurd (laws.none_first m u first accepted)
+  module_one m steps input s t o p (unproved u first is nothing) (bad_input built e fails is' nothing') = absurd (laws.none_first m u first built.accepted)
+  module_one m steps input s t o p (unproved u first is nothing) (ran built numbers reads a) = absurd (laws.none_first m u first built.accepted)
+  module_one m steps input s t o p (too_long accepted many is nothing) (unproved u first is' nothing') = absurd (laws.none_first m u first accepted)
+  module_one m steps input s t o p (too_long accepted many is nothing) (too_long accepted' many' is' nothing') = both s t _ o p [] is is' nothing nothing'
+  module_one m steps input s t o p (too_long accepted many is nothing) (bad_input built e fails is' nothing') = let few = built.short in absurd (omega (arith, many, few))
+  module_one m steps input s t o p (too_long accepted many is nothing) (ran built numbers reads a) = let few = built.short in absurd (omega (arith, many, few))
+  module_one m steps input s t o p (bad_input built e fails is nothing) (unproved u first is' nothing') = absurd (laws.none_first m u first built.accepted)
+  module_one m steps input s t o p (bad_input built e fails is nothing) (too_long accepted many is' nothing') = let few = built.short in absurd (omega (arith, many, few))
+  module_one m steps input s t o p (bad_input built e fails is nothing) (bad_input built' f fails' is' nothing') =
+      both_none s t _ _ o p is is' (ap (λ x. status.BadInput x) (same_err (reading input) e f fails fails')) nothing nothing'
+  module_one m steps input s t o p (bad_input built e fails is nothing) (ran built' numbers reads a) = absurd (ok_not_err (reading input) numbers e reads fails)
+  module_one m steps input s t o p (ran built numbers reads a) (unproved u first is' nothing') = absurd (laws.none_first m u first built.accepted)
+  module_one m steps input s t o p (ran built numbers reads a) (too_long accepted many is' nothing') = let few = built.short in absurd (omega (arith, many, few))
+  module_one m steps input s t o p (ran built numbers reads a) (bad_input built' e fails is' nothing') = absurd (ok_not_err (reading input) numbers e reads fails)
+  module_one m steps input s t o p (ran built numbers reads a) (ran built' ns reads' b) =
+      run_one m ns steps s t o p (subst (λ ks. RunAnswer m ks steps s o) (same_ok (reading input) numbers ns reads reads') a) b
 
-    module _ (bytes : List ℕ) (holds : files name ≡ Some bytes) where
-      same_bytes_of : (n a : List ℕ) → command words ≡ Some (Run n) → files n ≡ Some a → a ≡ bytes
-      same_bytes_of n a f held = same_text files name a bytes (ap files (sym (same_file words n name f says)) ∙ held) holds
+  no_form_refused : (bytes : List ℕ) (e : LexError) (at : ℕ) → Refuses bytes e → IsNotYet bytes at → ⊥
+  no_form_refused bytes e at refuses (ts, k, are, refused, place) = laws.texts.read_or_refused bytes ts e are refuses
 
-      only_long : most_component_bytes < length bytes → (s : Status) (o : List ℕ) → Answers words files s o → Is (status.FileTooLong name) [] s o
-      only_long e status.BadWords o (f, x) = absurd (no_words words name f says)
-      only_long e status.NotBuilt o (f, x) = absurd (no_other words name f says)
-      only_long e (status.NotFound n) o (f, none, x) = absurd (no_file files name bytes (ap files (sym (same_file words n name f says)) ∙ none) holds)
-      only_long e (status.FileTooLong n) o (f, a, held, long, x) = (ap (λ k. status.FileTooLong k) (same_file words n name f says), x)
-      only_long e (status.Refused line) o (n, a, runs, answers) = absurd (omega (arith, e, runs.short, ap length (same_bytes_of n a runs.says runs.holds)))
-      only_long e status.Done o (n, a, runs, answers) = absurd (omega (arith, e, runs.short, ap length (same_bytes_of n a runs.says runs.holds)))
-      only_long e status.ShelfFault o h = absurd h
-      only_long e status.SinkFault o h = absurd h
-      only_long e status.NoMemory o h = absurd h
+  one_place_of : (bytes : List ℕ) (at to : ℕ) → IsNotYet bytes at → IsNotYet bytes to → at ≡ to
+  one_place_of bytes at to (ts, k, are, refused, place) (us, j, are', refused', place') =
+      let same = laws.texts.one_reading bytes ts us are are' in
+      let places = laws.one_place (kinds_in us) k j (subst (λ vs. IsRefusedAt (kinds_in vs) k) same refused) refused' in
+      place ∙ ap (λ vs. place_or (length bytes) (slice_get vs k)) same ∙ ap (λ i. place_or (length bytes) (slice_get us i)) places ∙ sym place'
 
-      moved : (n a : List ℕ) (s : Status) (o : List ℕ) → command words ≡ Some (Run n) → files n ≡ Some a → TextAnswers n a s o → TextAnswers name bytes s o
-      moved n a s o f held h =
-          subst (λ k. TextAnswers k bytes s o) (same_file words n name f says) (subst (λ b. TextAnswers n b s o) (same_bytes_of n a f held) h)
+  text_one : (name bytes : List ℕ) (steps : ℕ) (input : List ℕ) (s t : Status) (o p : List ℕ) → TextAnswer name bytes steps input s o → TextAnswer name bytes steps input t p → Both s t o p
+  text_one name bytes steps input s t o p (no_tokens e refuses is nothing) (no_tokens f refuses' is' nothing') =
+      both_none s t _ _ o p is is' (ap (λ x. status.Refused (lex_line name x)) (laws.one_refusal bytes e f refuses refuses')) nothing nothing'
+  text_one name bytes steps input s t o p (no_tokens e refuses is nothing) (not_yet at not is' nothing') = absurd (no_form_refused bytes e at refuses not)
+  text_one name bytes steps input s t o p (no_tokens e refuses is nothing) (spelled m spells a) = absurd (no_tokens_spelled laws.texts bytes m e spells refuses)
+  text_one name bytes steps input s t o p (not_yet at not is nothing) (no_tokens e refuses is' nothing') = absurd (no_form_refused bytes e at refuses not)
+  text_one name bytes steps input s t o p (not_yet at not is nothing) (not_yet to not' is' nothing') =
+      both_none s t _ _ o p is is' (ap (λ x. status.Refused (not_yet_line name x)) (one_place_of bytes at to not not')) nothing nothing'
+  text_one name bytes steps input s t o p (not_yet at not is nothing) (spelled m spells a) = absurd (not_yet_spelled laws.texts bytes m at spells not)
+  text_one name bytes steps input s t o p (spelled m spells a) (no_tokens e refuses is' nothing') = absurd (no_tokens_spelled laws.texts bytes m e spells refuses)
+  text_one name bytes steps input s t o p (spelled m spells a) (not_yet at not is' nothing') = absurd (not_yet_spelled laws.texts bytes m at spells not)
+  text_one name bytes steps input s t o p (spelled m spells a) (spelled n spells' b) =
+      module_one n steps input s t o p (subst (λ k. ModuleAnswer k steps input s o) (same_module laws.texts bytes m n spells spells') a) b
 
-      only_text : length bytes ≤ most_component_bytes → (s : Status) (o : List ℕ) → Answers words files s o → TextAnswers name bytes s o
-      only_text e status.BadWords o (f, x) = absurd (no_words words name f says)
-      only_text e status.NotBuilt o (f, x) = absurd (no_other words name f says)
-      only_text e (status.NotFound n) o (f, none, x) = absurd (no_file files name bytes (ap files (sym (same_file words n name f says)) ∙ none) holds)
-      only_text e (status.FileTooLong n) o (f, a, held, long, x) = absurd (omega (arith, e, long, ap length (same_bytes_of n a f held)))
-      only_text e (status.Refused line) o (n, a, runs, answers) = moved n a (status.Refused line) o runs.says runs.holds answers
-      only_text e status.Done o (n, a, runs, answers) = moved n a status.Done o runs.says runs.holds answers
-      only_text e status.ShelfFault o h = absurd h
-      only_text e status.SinkFault o h = absurd h
-      only_text e status.NoMemory o h = absurd h
+  file_one : (name bytes : List ℕ) (steps : ℕ) (input : List ℕ) (s t : Status) (o p : List ℕ) → FileAnswer name bytes steps input s o → FileAnswer name bytes steps input t p → Both s t o p
+  file_one name bytes steps input s t o p (long many is nothing) (long many' is' nothing') = both s t _ o p [] is is' nothing nothing'
+  file_one name bytes steps input s t o p (long many is nothing) (short few a) = absurd (omega (arith, many, few))
+  file_one name bytes steps input s t o p (short few a) (long many is nothing) = absurd (omega (arith, many, few))
+  file_one name bytes steps input s t o p (short few a) (short few' b) = text_one name bytes steps input s t o p a b
 
-module _ (laws : Laws) (refusals : RefusalLaws) (name bytes : List ℕ) where
-  done_only : (p : List ℕ) → TextAnswers name bytes status.Done p → (s : Status) (o : List ℕ) → TextAnswers name bytes s o → Is status.Done p s o
-  done_only p a status.Done o b = (refl, done_once laws refusals name bytes o p b a)
-  done_only p a (status.Refused line) o (b, x) = absurd (not_both laws refusals name bytes p line a b)
-  done_only p a status.BadWords o h = absurd h
-  done_only p a status.NotBuilt o h = absurd h
-  done_only p a (status.NotFound n) o h = absurd h
-  done_only p a (status.FileTooLong n) o h = absurd h
-  done_only p a status.ShelfFault o h = absurd h
-  done_only p a status.SinkFault o h = absurd h
-  done_only p a status.NoMemory o h = absurd h
-
-  refused_only : (line : List ℕ) → IsRefusedWith name bytes line → (s : Status) (o : List ℕ) → TextAnswers name bytes s o → Is (status.Refused line) [] s o
-  refused_only line a status.Done o b = absurd (not_both laws refusals name bytes o line b a)
-  refused_only line a (status.Refused l) o (b, x) = (ap (λ k. status.Refused k) (one_line laws refusals name bytes l line b a), x)
-  refused_only line a status.BadWords o h = absurd h
-  refused_only line a status.NotBuilt o h = absurd h
-  refused_only line a (status.NotFound n) o h = absurd h
-  refused_only line a (status.FileTooLong n) o h = absurd h
-  refused_only line a status.ShelfFault o h = absurd h
-  refused_only line a status.SinkFault o h = absurd h
-  refused_only line a status.NoMemory o h = absurd h
-
-other_way : (s t : Status) (o p q : List ℕ) → q ≡ p → Is t p s o → (s ≡ t) × (o ≡ q)
-other_way s t o p q e h = (h.0, h.1 ∙ sym e)
-
--- Two answers of the words over the files are one.
-pub one_answer : Laws → RefusalLaws → (words : List Word) (files : Files) (s t : Status) (o q : List ℕ) → Answers words files s o → Answers words files t q → (s ≡ t) × (o ≡ q)
-one_answer laws refusals words files s status.BadWords o q a (e, x) = other_way s status.BadWords o [] q x (only_bad words files e s o a)
-one_answer laws refusals words files s status.NotBuilt o q a (e, x) = other_way s status.NotBuilt o [] q x (only_other words files e s o a)
-one_answer laws refusals words files s (status.NotFound n) o q a (e, none, x) = other_way s (status.NotFound n) o [] q x (only_missing words files n e none s o a)
-one_answer laws refusals words files s (status.FileTooLong n) o q a (e, bytes, held, long, x) = other_way s (status.FileTooLong n) o [] q x (only_long words files n e bytes held long s o a)
-one_answer laws refusals words files s (status.Refused line) o q a (n, bytes, runs, b) =
-    other_way s (status.Refused line) o [] q b.1 (refused_only laws refusals n bytes line b.0 s o (only_text words files n runs.says bytes runs.holds runs.short s o a))
-one_answer laws refusals words files s status.Done o q a (n, bytes, runs, answers) =
-    done_only laws refusals n bytes q answers s o (only_text words files n runs.says bytes runs.holds runs.short s o a)
-one_answer laws refusals words files s status.ShelfFault o q a h = absurd h
-one_answer laws refusals words files s status.SinkFault o q a h = absurd h
-one_answer laws refusals words files s status.NoMemory o q a h = absurd h
-
--- Where no count rose, the status is an answer's, or memory ran out.
-pub complete : (words : List Word) (files : Files) (s : Status) (old new : Option (List ℕ)) → (s ≡ status.SinkFault → ⊥) → (s ≡ status.ShelfFault → ⊥) → Answered words files s old new → (s ≡ status.NoMemory) ⊎ Got words files s old new
-complete words files status.Done old new sink shelf h = inr h
-complete words files (status.Refused line) old new sink shelf h = inr h
-complete words files status.BadWords old new sink shelf h = inr h
-complete words files (status.NotFound n) old new sink shelf h = inr h
-complete words files (status.FileTooLong n) old new sink shelf h = inr h
-complete words files status.NotBuilt old new sink shelf h = inr h
-complete words files status.NoMemory old new sink shelf h = inl refl
-complete words files status.ShelfFault old new sink shelf h = absurd (shelf refl)
-complete words files status.SinkFault old new sink shelf h = absurd (sink refl)
+  pub one_answer : (words : List Word) (files : Files) (input : List ℕ) (s t : Status) (o p : List ℕ) → Answers words files input s o → Answers words files input t p → (s ≡ t) × (o ≡ p)
+  one_answer words files input s t o p (no_reading none is nothing) (no_reading none' is' nothing') = both s t _ o p [] is is' nothing nothing'
+  one_answer words files input s t o p (no_reading none is nothing) (not_built other is' nothing') = absurd (stages.no_words words Other none other)
+  one_answer words files input s t o p (no_reading none is nothing) (no_file n k says missing is' nothing') = absurd (stages.no_words words (Run n k) none says)
+  one_answer words files input s t o p (no_reading none is nothing) (file n k bytes says holds a) = absurd (stages.no_words words (Run n k) none says)
+  one_answer words files input s t o p (not_built other is nothing) (no_reading none is' nothing') = absurd (stages.no_words words Other none other)
+  one_answer words files input s t o p (not_built other is nothing) (not_built other' is' nothing') = both s t _ o p [] is is' nothing nothing'
+  one_answer words files input s t o p (not_built other is nothing) (no_file n k says missing is' nothing') = absurd (stages.no_other words n k other says)
+  one_answer words files input s t o p (not_built other is nothing) (file n k bytes says holds a) = absurd (stages.no_other words n k other says)
+  one_answer words files input s t o p (no_file n k says missing is nothing) (no_reading none is' nothing') = absurd (stages.no_words words (Run n k) none says)
+  one_answer words files input s t o p (no_file n k says missing is nothing) (not_built other is' nothing') = absurd (stages.no_other words n k other says)
+  one_answer words files input s t o p (no_file n k says missing is nothing) (no_file l j says' missing' is' nothing') =
+      both_none s t _ _ o p is is' (ap (λ x. status.NotFound x) (same_name n l k j (same_command words (Run n k) (Run l j) says says'))) nothing nothing'
+  one_answer words files input s t o p (no_file n k says missing is nothing) (file l j bytes says' holds a) =
+      let names = same_name n l k j (same_command words (Run n k) (Run l j) says says') in
+      absurd (stages.no_file files l bytes (ap files (sym names) ∙ missing) holds)
+  one_answer words files input s t o p (file n k bytes says holds a) (no_reading none is nothing) = absurd (stages.no_words words (Run n k) none says)
+  one_answer words files input s t o p (file n k bytes says holds a) (not_built other is nothing) = absurd (stages.no_other words n k other says)
+  one_answer words files input s t o p (file n k bytes says holds a) (no_file l j says' missing is nothing) =
+      let names = same_name l n j k (same_command words (Run l j) (Run n k) says' says) in
+      absurd (stages.no_file files n bytes (ap files (sym names) ∙ missing) holds)
+  one_answer words files input s t o p (file n k bytes says holds a) (file l j bs says' holds' b) =
+      let same = same_command words (Run n k) (Run l j) says says' in
+      let names = same_name n l k j same in
+      let texts = same_text files l bytes bs (ap files (sym names) ∙ holds) holds' in
+      file_one l bs j input s t o p (subst (λ i. FileAnswer l bs i input s o) (same_steps n l k j same) (subst (λ c. FileAnswer l c k input s o) texts (subst (λ f. FileAnswer f bytes k input s o) names a))) b

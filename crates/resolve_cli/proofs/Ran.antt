@@ -1,18 +1,20 @@
--- What a stopped run of a module's image says of out.
-use Rattle.std.proofs.Common.{◌≡◌, ◌∙◌, sym, ap, refl, subst, ℕ, ◌≤◌, ℤ, List, [], ◌∷◌, ◌++◌, length, map, Option, Some, None, arith, append_assoc}
+-- What a run of a module's image leaves on out.
+use Rattle.std.proofs.Common.{◌≡◌, ◌∙◌, sym, ap, refl, subst, ℕ, ◌≤◌, ℤ, List, [], ◌∷◌, ◌++◌, length, Option, Some, None, arith, append_assoc, inl, inr}
 use Rattle.std.specs.Prelude.{IsSomeAnd, IsSome}
 use Rattle.std.proofs.lemmas.List.{take-append-le, take_all}
 use Rattle.edge_io.specs.Held.{Grew, GrewByPrefix}
 use Rattle.stack_machine.specs.declared.image.Image.{Image}
+use Rattle.stack_machine.specs.declared.image.Stop.{Stop}
 use Rattle.stack_machine.specs.declared.image.Stop.TheVariants as stop
 use Rattle.stack_machine.specs.Machine.{State, after}
 use Rattle.stack_machine.specs.Lines.{line, lines}
-use Rattle.stack_machine.specs.Runs.{HasMain, NeverStuck, Stopped}
+use Rattle.stack_machine.specs.Runs.{Stopped}
 use Rattle.stack_machine.specs.Simulation.{IsFront}
-use Rattle.resolve_cli.specs.declared.module.Form.{Form}
-use Rattle.resolve_cli.specs.Form.{number_of}
-use Rattle.resolve_cli.specs.Answer.{image_of}
-use Rattle.resolve_cli.proofs.Machine.{over, halted_at, never_stuck}
+use Rattle.main_form.specs.declared.module.Module.{Module}
+use Rattle.resolve_cli.specs.declared.status.Status.{Status}
+use Rattle.resolve_cli.specs.declared.status.Status.TheVariants as status
+use Rattle.resolve_cli.specs.Answer.{RunAnswer, halted, spent, image_of}
+use Rattle.resolve_cli.specs.Resolves.{Answered, answer, not_read, cut}
 
 lines-append : (xs ys : List ℤ) → lines (xs ++ ys) ≡ lines xs ++ lines ys
 lines-append [] ys = refl
@@ -23,39 +25,45 @@ pub grew_prefix : (a b : Option (List ℕ)) (p q : List ℕ) → Grew a b p → 
 grew_prefix a b p q grew =
     (length p, subst (λ piece. Grew a b piece) (sym (take-append-le (length p) p q (omega arith) ∙ take_all (length p) p (omega arith))) grew)
 
-abbrev pub Stays : Type 0
-Stays = (image : Image) (input : List ℤ) (m n : ℕ) (s : State) → m ≤ n → after image input m ≡ Some s → s.frames ≡ [] → after image input n ≡ Some s
-
 abbrev pub Grows : Type 0
 Grows = (image : Image) (input : List ℤ) (m n : ℕ) (s t : State) → m ≤ n → after image input m ≡ Some s → after image input n ≡ Some t → IsFront s.output t.output
 
-at_some : (o : Option State) (s : State) (P : State → Type 0) → o ≡ Some s → IsSomeAnd o P → P s
-at_some o s P e h = subst (λ o. IsSomeAnd o P) e h
+pub some_and : {A : Type 0} (o : Option A) (P : A → Type 0) → IsSomeAnd o P → (a : A) × (o ≡ Some a) × P a
+some_and None P h = absurd h
+some_and (Some a) P h = (a, refl, h)
 
-module _ (stays : Stays) (f : Form) (few : length f.written ≤ 64) (image : Image) (is : image ≡ image_of f) (steps : ℕ) (long : 129 ≤ steps) where
-  halted : after image [] steps ≡ Some (over (map number_of f.written))
-  halted = ap (λ i. after i [] steps) is ∙ halted_at stays f.written steps few long
+same_some : {A : Type 0} (o : Option A) (a b : A) → o ≡ Some a → o ≡ Some b → a ≡ b
+same_some o a b e f = let g : Some a ≡ Some b = sym e ∙ f in cc
 
-  pub main_stands : HasMain image
-  main_stands = subst HasMain (sym is) (refl, refl)
+module _ (m : Module) (numbers : List ℤ) (steps : ℕ) where
+  -- out of an answer are the lines of the state's output
+  pub run_out : (t : State) → after (image_of m) numbers steps ≡ Some t → (s : Status) (out : List ℕ) → RunAnswer m numbers steps s out → out ≡ lines t.output
+  run_out t reached s out (halted u there over is lined) = lined ∙ ap (λ (v : State). lines v.output) (same_some (after (image_of m) numbers steps) u t there reached)
+  run_out t reached s out (spent u there goes is lined) = lined ∙ ap (λ (v : State). lines v.output) (same_some (after (image_of m) numbers steps) u t there reached)
 
-  pub image_goes_on : NeverStuck image [] steps
-  image_goes_on n le = subst (λ i. IsSome (after i [] n)) (sym is) (never_stuck stays f.written n)
+  run_reached : (s : Status) (out : List ℕ) → RunAnswer m numbers steps s out → (t : State) × (after (image_of m) numbers steps ≡ Some t) × (out ≡ lines t.output)
+  run_reached s out (halted u there over is lined) = (u, there, lined)
+  run_reached s out (spent u there goes is lined) = (u, there, lined)
 
-  pub halted_grew : (old new : Option (List ℕ)) → Stopped image [] steps stop.Halted old new → Grew old new (lines (map number_of f.written))
-  halted_grew old new h = (at_some (after image [] steps) (over (map number_of f.written)) (λ s. (s.frames ≡ []) × Grew old new (lines s.output)) halted h).1
+  pub halted_answered : (old new : Option (List ℕ)) → Stopped (image_of m) numbers steps stop.Halted old new → Answered (RunAnswer m numbers steps) status.Done old new
+  halted_answered old new h =
+      let at = some_and (after (image_of m) numbers steps) (λ s. (s.frames ≡ []) × Grew old new (lines s.output)) h in
+      answer (lines at.0.output) (halted at.0 at.1 at.2.0 refl refl) at.2.1
 
-  pub fault_grew : (old new : Option (List ℕ)) → Stopped image [] steps stop.SinkFault old new → GrewByPrefix old new (lines (map number_of f.written))
-  fault_grew old new h = at_some (after image [] steps) (over (map number_of f.written)) (λ s. GrewByPrefix old new (lines s.output)) halted h
+  pub spent_answered : (old new : Option (List ℕ)) → Stopped (image_of m) numbers steps stop.StepsSpent old new → Answered (RunAnswer m numbers steps) (status.StepsSpent steps) old new
+  spent_answered old new h =
+      let at = some_and (after (image_of m) numbers steps) (λ s. (s.frames ≡ [] → ⊥) × Grew old new (lines s.output)) h in
+      answer (lines at.0.output) (spent at.0 at.1 at.2.0 refl refl) at.2.1
 
-  pub not_spent : (old new : Option (List ℕ)) → Stopped image [] steps stop.StepsSpent old new → ⊥
-  not_spent old new h = (at_some (after image [] steps) (over (map number_of f.written)) (λ s. (s.frames ≡ [] → ⊥) × Grew old new (lines s.output)) halted h).0 refl
+  pub fault_answered : (old new : Option (List ℕ)) → Stopped (image_of m) numbers steps stop.SinkFault old new → Answered (RunAnswer m numbers steps) status.SinkFault old new
+  fault_answered old new h =
+      let at = some_and (after (image_of m) numbers steps) (λ s. GrewByPrefix old new (lines s.output)) h in
+      cut (inl refl) (λ s out a. subst (λ bs. GrewByPrefix old new bs) (sym (run_out at.0 at.1 s out a)) at.2)
 
-  front_grew : Grows → (old new : Option (List ℕ)) (k : ℕ) (o : Option State) → k ≤ steps → after image [] k ≡ o → IsSomeAnd o (λ s. Grew old new (lines s.output)) → GrewByPrefix old new (lines (map number_of f.written))
-  front_grew grows old new k None le e h = absurd h
-  front_grew grows old new k (Some s) le e h =
-      let front = grows image [] k steps s (over (map number_of f.written)) le e halted in
-      subst (λ bs. GrewByPrefix old new bs) (sym (lines-append s.output front.0) ∙ ap lines (sym front.1)) (grew_prefix old new (lines s.output) (lines front.0) h)
-
-  pub memory_grew : Grows → (old new : Option (List ℕ)) → Stopped image [] steps stop.NoMemory old new → GrewByPrefix old new (lines (map number_of f.written))
-  memory_grew grows old new (k, le, h) = front_grew grows old new k (after image [] k) le refl h
+  pub memory_answered : Grows → (old new : Option (List ℕ)) → Stopped (image_of m) numbers steps stop.NoMemory old new → Answered (RunAnswer m numbers steps) status.NoMemory old new
+  memory_answered grows old new (k, le, h) =
+      let at = some_and (after (image_of m) numbers k) (λ s. Grew old new (lines s.output)) h in
+      cut (inr refl) (λ s out a.
+      let end = run_reached s out a in
+      let front = grows (image_of m) numbers k steps at.0 end.0 le at.1 end.1 in
+      subst (λ bs. GrewByPrefix old new bs) (sym (end.2 ∙ ap lines front.1 ∙ lines-append at.0.output front.0)) (grew_prefix old new (lines at.0.output) (lines front.0) at.2))

@@ -1,10 +1,4 @@
-pub mod Reserved
-pub mod Form
-pub mod Words
-pub mod Reading
-pub mod Condition
-pub mod Texts
 pub mod Answer
+pub mod Headline
 pub mod Resolves
-pub mod Scan
-pub mod Reader
+pub mod Texts

@@ -2,6 +2,12 @@
 use Rattle.std.specs.Prelude.{ℕ, List, [], ◌∷◌, ◌++◌, codes, decimal}
 use Rattle.res_lexer.specs.declared.token.LexError.{LexError}
 use Rattle.res_lexer.specs.declared.token.LexError.TheVariants.{BadByte, OpenComment, LongName, BigLiteral, NoMemory}
+use Rattle.edge_io.specs.declared.numbers.InputError.{InputError}
+use Rattle.edge_io.specs.declared.numbers.InputError.TheVariants as error
+use Rattle.vc_sequents.specs.declared.sequent.VcKind.{VcKind}
+use Rattle.vc_sequents.specs.declared.sequent.VcKind.TheVariants as kind
+use Rattle.main_prover.specs.declared.proving.Unproved.{Unproved}
+use Rattle.resolve_cli.specs.declared.status.LinkError.TheVariants as link
 use Rattle.resolve_cli.specs.declared.status.Status.{Status}
 use Rattle.resolve_cli.specs.declared.status.Status.TheVariants as status
 
@@ -31,12 +37,37 @@ lex_line file e = refused_line file (lex_kind e) (lex_place e)
 abbrev pub not_yet_line : List ℕ → ℕ → List ℕ
 not_yet_line file at = refused_line file (codes "NotYet") at
 
--- an unproved condition of Main, under the name of the module: `refused NAME: Unproved NAME.Main.1 ensures at N`
-abbrev pub unproved_kind : List ℕ → List ℕ
-unproved_kind name = codes "Unproved " ++ (name ++ codes ".Main.1 ensures")
+-- the kinds of conditions
+abbrev pub kind_text : VcKind → List ℕ
+kind_text kind.Facility = codes "facility"
+kind_text kind.Constraint = codes "constraint"
+kind_text kind.InitConvention = codes "init_convention"
+kind_text kind.InitEnsures = codes "init_ensures"
+kind_text kind.Requires = codes "requires"
+kind_text kind.Range = codes "range"
+kind_text kind.Divisor = codes "divisor"
+kind_text kind.Entry = codes "entry"
+kind_text kind.Keep = codes "keep"
+kind_text kind.Progress = codes "progress"
+kind_text kind.Metric = codes "metric"
+kind_text kind.Ensures = codes "ensures"
+kind_text kind.ModeExit = codes "mode_exit"
+kind_text kind.Convention = codes "convention"
 
-abbrev pub unproved_line : List ℕ → ℕ → List ℕ
-unproved_line name at = refused_line name (unproved_kind name) at
+-- an unproved condition of Main, under the name of the module: `refused NAME: Unproved NAME.Main.K KIND at N`
+abbrev pub unproved_kind : List ℕ → Unproved → List ℕ
+unproved_kind name u = codes "Unproved " ++ (name ++ (codes ".Main." ++ (decimal u.number ++ (codes " " ++ kind_text u.kind))))
+
+abbrev pub unproved_line : List ℕ → Unproved → List ℕ
+unproved_line name u = refused_line name (unproved_kind name u) u.at
+
+-- what is wrong with an input, with its place where it has one
+abbrev pub input_text : InputError → List ℕ
+input_text error.Failed = codes "Failed"
+input_text error.TooLong = codes "TooLong"
+input_text (error.NoNumber at) = codes "NoNumber at " ++ decimal at
+input_text (error.TooMany at) = codes "TooMany at " ++ decimal at
+input_text error.NoMemory = codes "NoMemory"
 
 -- What notes grows by: the line of the status and LF, and nothing where the command was carried out.
 abbrev pub note_of : Status → List ℕ
@@ -45,7 +76,11 @@ note_of (status.Refused line) = line ++ 10 ∷ []
 note_of status.BadWords = codes "bad words" ++ 10 ∷ []
 note_of (status.NotFound name) = codes "not found: " ++ (name ++ 10 ∷ [])
 note_of status.ShelfFault = codes "shelf fault" ++ 10 ∷ []
+note_of (status.LinkRefused link.CodeTooLong) = codes "link refused: CodeTooLong" ++ 10 ∷ []
+note_of (status.BadInput e) = codes "bad input: " ++ (input_text e ++ 10 ∷ [])
+note_of status.SourceFault = codes "source fault" ++ 10 ∷ []
 note_of status.SinkFault = codes "sink fault" ++ 10 ∷ []
+note_of (status.StepsSpent steps) = codes "steps spent: " ++ (decimal steps ++ 10 ∷ [])
 note_of status.NoMemory = codes "no memory" ++ 10 ∷ []
 note_of (status.FileTooLong name) = codes "file too long: " ++ (name ++ 10 ∷ [])
 note_of status.NotBuilt = codes "not built" ++ 10 ∷ []

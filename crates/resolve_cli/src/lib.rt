@@ -2,20 +2,15 @@
 #![tactic(auto)]
 
 pub mod answer_laws;
-mod compile;
-mod condition;
-pub mod form_laws;
-pub mod module;
+#[cfg(test)]
+mod condition_tests;
 mod notes;
-mod proving;
-pub mod reader;
 mod running;
 mod status;
 #[cfg(test)]
 mod tests;
 mod texts;
 mod top;
-pub mod words;
 
-pub use status::Status;
+pub use status::{LinkError, Status};
 pub use top::resolve;

@@ -1,65 +1,139 @@
-//! Running a module: its condition decided, its image run.
+//! Running a module: its conditions proved, its image made, the input read, the machine started.
 
-ghost use Rattle.std.specs.Prelude.{◌≡◌, ◌↔◌, ◌≤◌, ◌⊎◌, All, IfOk, IsTrue};
-ghost use Rattle.edge_io.specs.Faults.{Rose};
-ghost use Rattle.math_terms.specs.Terms.{nodes, put};
-ghost use Rattle.resolve_cli.specs.Condition.{IsClosed, IsComputed, IsProvedForm, empty_string};
-ghost use Rattle.resolve_cli.specs.Form.{IsSmall, IsSmallLiteral};
-ghost use Rattle.resolve_cli.specs.Resolves.{ModuleRan};
+ghost use Rattle.std.specs.Prelude.{◌≡◌, ◌≤◌, ℕ, ℤ, List, IsSome, MatchResult};
+ghost use Rattle.edge_io.specs.Numbers.{HadLeft};
+ghost use Rattle.stack_machine.specs.Machine.{after};
+ghost use Rattle.stack_machine.specs.Runs.{HasMain, NeverStuck};
+ghost use Rattle.main_form.specs.declared.module.Module.{Module};
+ghost use Rattle.main_form.specs.Spelling.{IsForm};
+ghost use Rattle.main_vcs.specs.Soundness.{IsInput};
+ghost use Rattle.resolve_cli.specs.Answer.{IsAccepted, IsBuilt, ModuleAnswer, RunAnswer, image_of};
+ghost use Rattle.resolve_cli.specs.Resolves.{Answered, Counted, IsRunEnd, Left, SomeAnswer};
 
-use crate::compile::compile;
-use crate::condition::{goal, hypotheses};
-use crate::module::Form;
-use crate::proving::{is_closed, is_computed};
-use crate::status::Status;
+use crate::status::{LinkError, Status};
+use crate::texts::unproved_line;
+use edge_io::laws::unchanged;
+use edge_io::numbers::{InputError, read_numbers};
 use edge_io::sink::Sink;
-use math_terms::{NoMemory, Term};
-use stack_machine::laws::{halted_stays, output_grows};
-use stack_machine::{Stop, run};
+use edge_io::source::Source;
+use main_form::Module;
+use main_prover::laws::{modules_are_formed, none_first, proved_is_valid};
+use main_prover::{first_unproved, link_main};
+use main_vcs::laws::conditions_are_sound;
+use math_terms::{Name, NoMemory};
+use stack_machine::laws::{code_simulates, halted_stays, output_grows};
+use stack_machine::{CodeError, Image, Stop, compile, run};
 use std::alloc::Global;
 
-// Whether the search closes a goal at once, or it can be computed and is true.
-fn decide(alloc: Global, hyps: &[Term], goal: &Term) -> Result<bool, NoMemory>
-    requires { nodes (put 2 empty_string goal.now) ≤ 10000 }
-    ensures { IfOk result (λ b. IsTrue b ↔ (IsClosed hyps.now goal.now ⊎ IsComputed goal.now)) }
+/// A status that has a line, or want of memory.
+pub fn refused(line: Result<Name, NoMemory>) -> Status
+    ensures { MatchResult line (λ l. result ≡ Status.Refused l) (λ _. result ≡ Status.NoMemory) }
 {
-    if is_closed(hyps, goal) {
-        return Ok(true);
+    match line {
+        Ok(line) => Status::Refused { line },
+        Err(_) => Status::NoMemory,
     }
-    is_computed(alloc, goal)
 }
 
-/// Whether the condition of a module is proved.
-pub fn is_proved(alloc: Global, form: &Form) -> Result<bool, NoMemory>
-    requires small { IsSmall form.now }
-    requires claimed { All IsSmallLiteral form.now.claimed }
-    requires written { All IsSmallLiteral form.now.written }
-    ensures { IfOk result (λ b. IsTrue b ↔ IsProvedForm form.now) }
-{
-    let goal = goal(alloc, form)?;
-    let hyps = hypotheses(alloc)?;
-    decide(alloc, hyps.as_slice(), &goal)
-}
-
-/// Runs the image of a module on the empty input, for so many steps at most.
-pub fn run_module<K: Sink>(alloc: Global, form: &Form, steps: u64, out: &mut K) -> Status
-    requires enough { 129 ≤ steps }
-    requires small { IsSmall form.now }
-    requires written { All IsSmallLiteral form.now.written }
-    ensures ran { ModuleRan form.now result (K.held out.old) (K.held out.new) }
-    ensures never_falls { K.faults out.old ≤ K.faults out.new }
-    ensures fault { result ≡ Status.SinkFault → Rose (K.faults out.old) (K.faults out.new) }
+// Runs a module's image on numbers, for so many instructions at most.
+fn run_image<K: Sink>(
+    alloc: Global,
+    image: &Image,
+    numbers: &[i64],
+    steps: u64,
+    out: &mut K,
+) -> Status
+    requires main { HasMain image.now }
+    requires never_stuck { NeverStuck image.now numbers.now steps }
+    ensures answered { (m : Module) → image.now ≡ image_of m → Answered (RunAnswer m numbers.now steps) result (K.held out.old) (K.held out.new) }
+    ensures counted { (n : ℕ) → Counted result (K.faults out.old) (K.faults out.new) n n }
+    ensures ran { IsRunEnd result }
 {
     halted_stays();
     output_grows();
-    let image = match compile(alloc, form) {
-        Ok(image) => image,
-        Err(_) => return Status::NoMemory,
-    };
-    match run(alloc, &image, &[], steps, out) {
+    match run(alloc, image, numbers, steps, out) {
         Stop::Halted => Status::Done,
+        Stop::StepsSpent => Status::StepsSpent { steps },
         Stop::SinkFault => Status::SinkFault,
         Stop::NoMemory => Status::NoMemory,
-        Stop::StepsSpent => unreachable!(),
+    }
+}
+
+// Reads the input, and runs a module's image on its numbers.
+fn run_on_input<S: Source, K: Sink>(
+    alloc: Global,
+    image: &Image,
+    steps: u64,
+    input: &mut S,
+    out: &mut K,
+) -> Status
+    requires main { HasMain image.now }
+    requires never_stuck { (numbers : List ℤ) → IsInput numbers → (n : ℕ) → IsSome (after image.now numbers n) }
+    ensures answered { (text : List ℕ) × HadLeft (S.left input.old) text × ((m : Module) → image.now ≡ image_of m → IsBuilt m → Answered (ModuleAnswer m steps text) result (K.held out.old) (K.held out.new)) }
+    ensures left { Left result (S.left input.old) (S.left input.new) (S.faults input.old) (S.faults input.new) }
+    ensures counted { Counted result (K.faults out.old) (K.faults out.new) (S.faults input.old) (S.faults input.new) }
+    ensures no_shelf { result ≡ Status.ShelfFault → ⊥ }
+{
+    unchanged();
+    none_first();
+    match read_numbers(alloc, input) {
+        Ok(numbers) => run_image(alloc, image, numbers.as_slice(), steps, out),
+        Err(InputError::Failed) => Status::SourceFault,
+        Err(InputError::TooLong) => Status::BadInput(InputError::TooLong),
+        Err(InputError::NoNumber { at }) => Status::BadInput(InputError::NoNumber { at }),
+        Err(InputError::TooMany { at }) => Status::BadInput(InputError::TooMany { at }),
+        Err(InputError::NoMemory) => Status::NoMemory,
+    }
+}
+
+// Runs a module whose conditions are proved.
+fn run_accepted<S: Source, K: Sink>(
+    alloc: Global,
+    m: &Module,
+    steps: u64,
+    input: &mut S,
+    out: &mut K,
+) -> Status
+    requires form { IsForm m.now }
+    requires accepted { IsAccepted m.now }
+    ensures answered { SomeAnswer (ModuleAnswer m.now steps) (S.left input.old) result (K.held out.old) (K.held out.new) }
+    ensures left { Left result (S.left input.old) (S.left input.new) (S.faults input.old) (S.faults input.new) }
+    ensures counted { Counted result (K.faults out.old) (K.faults out.new) (S.faults input.old) (S.faults input.new) }
+    ensures no_shelf { result ≡ Status.ShelfFault → ⊥ }
+{
+    unchanged();
+    proved_is_valid();
+    conditions_are_sound();
+    modules_are_formed();
+    code_simulates();
+    let Ok(linked) = link_main(alloc, m) else {
+        return Status::NoMemory;
+    };
+    match compile(alloc, &linked) {
+        Ok(image) => run_on_input(alloc, &image, steps, input, out),
+        Err(CodeError::CodeTooLong) => Status::LinkRefused(LinkError::CodeTooLong),
+        Err(CodeError::NoMemory) => Status::NoMemory,
+    }
+}
+
+/// Carries out a module: the line of its first unproved condition, or else its run on the input.
+pub fn run_module<S: Source, K: Sink>(
+    alloc: Global,
+    m: &Module,
+    steps: u64,
+    input: &mut S,
+    out: &mut K,
+) -> Status
+    requires form { IsForm m.now }
+    ensures answered { SomeAnswer (ModuleAnswer m.now steps) (S.left input.old) result (K.held out.old) (K.held out.new) }
+    ensures left { Left result (S.left input.old) (S.left input.new) (S.faults input.old) (S.faults input.new) }
+    ensures counted { Counted result (K.faults out.old) (K.faults out.new) (S.faults input.old) (S.faults input.new) }
+    ensures no_shelf { result ≡ Status.ShelfFault → ⊥ }
+{
+    unchanged();
+    match first_unproved(alloc, m) {
+        Ok(None) => run_accepted(alloc, m, steps, input, out),
+        Ok(Some(unproved)) => refused(unproved_line(alloc, m.name.bytes(), unproved)),
+        Err(_) => Status::NoMemory,
     }
 }

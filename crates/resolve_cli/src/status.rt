@@ -1,8 +1,16 @@
 //! How a command ends.
 
+use edge_io::numbers::InputError;
 use math_terms::Name;
 
-/// How a command ends. `Refused` has the report's line, without the LF; `NotFound` and `FileTooLong` the name of the file.
+/// Why a program is not linked: its code has more than 65,536 instructions.
+#[derive(Clone, Copy, Debug, PartialEq, Eq)]
+pub enum LinkError {
+    CodeTooLong,
+}
+
+/// How a command ends. `Refused` has the report's line, without the LF; `NotFound` and `FileTooLong` the name of the file;
+/// `StepsSpent` the number of instructions after which the run was not over.
 #[derive(Debug, Drop)]
 pub enum Status {
     Done,
@@ -10,7 +18,11 @@ pub enum Status {
     BadWords,
     NotFound { name: Name },
     ShelfFault,
+    LinkRefused(LinkError),
+    BadInput(InputError),
+    SourceFault,
     SinkFault,
+    StepsSpent { steps: u64 },
     NoMemory,
     FileTooLong { name: Name },
     NotBuilt,
@@ -25,7 +37,11 @@ impl Status {
             Status::BadWords => 2,
             Status::NotFound { .. } => 3,
             Status::ShelfFault => 4,
+            Status::LinkRefused(_) => 6,
+            Status::BadInput(_) => 7,
+            Status::SourceFault => 8,
             Status::SinkFault => 9,
+            Status::StepsSpent { .. } => 10,
             Status::NoMemory => 12,
             Status::FileTooLong { .. } => 13,
             Status::NotBuilt => 15,

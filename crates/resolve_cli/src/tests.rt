@@ -2,7 +2,7 @@
 
 use crate::{Status, resolve};
 use edge_io::calm::{CalmShelf, CalmSink, CalmSource};
-use edge_io::memory::{MemShelf, MemSink};
+use edge_io::memory::{MemShelf, MemSink, MemSource};
 use edge_io::shelf::Shelf;
 use std::alloc::{AllocError, Global};
 use std::test::Fail;
@@ -33,19 +33,33 @@ fn shelf_with(alloc: Global, text: &str) -> CalmShelf {
     shelf
 }
 
-// Whether the words, over a file `a` with this text, end with this status number and write these bytes.
-fn ends(
-    rt: &HostRuntime,
-    line: &str,
-    text: &str,
+const DOUBLER: &str =
+    "Facility Doubler;\n  Operation Main(updates In: In_Stream; updates Out: Out_Stream);\n    ensures true;\n  Procedure\n    Var I: Integer; If 1 <= Remaining(In) then Read(I, In); I := I + I; Write(I, Out); end;\n  end Main;\nend Doubler;\n";
+
+const GUARDED: &str =
+    "Facility Doubler; Operation Main(updates In: In_Stream; updates Out: Out_Stream); ensures true; Procedure Var I: Integer; If 1 <= Remaining(In) then Read(I, In); If -1000 <= I and I <= 1000 then I := I + I; Write(I, Out); end; end; end Main; end Doubler;";
+
+// What is asked: the words, the text of the file `a`, and the input.
+#[derive(Drop)]
+struct Call {
+    line: &'static str,
+    text: &'static str,
+    input: &'static str,
+}
+
+// What comes: the number of the status, and what is written on out and on notes.
+#[derive(Drop)]
+struct End {
     number: u8,
-    out: &str,
-    notes: &str,
-) -> Result<bool, Fail> {
+    out: &'static str,
+    notes: &'static str,
+}
+
+fn ends(rt: &HostRuntime, call: &Call, end: &End) -> Result<bool, Fail> {
     let alloc = rt.alloc();
-    let words = words_of(alloc, line)?;
-    let mut shelf = shelf_with(alloc, text);
-    let mut input = CalmSource::new(Vec::new(alloc));
+    let words = words_of(alloc, call.line)?;
+    let mut shelf = shelf_with(alloc, call.text);
+    let mut input = CalmSource::new(Vec::from_slice(alloc, call.input.as_bytes())?);
     let mut written = CalmSink::new(alloc);
     let mut noted = CalmSink::new(alloc);
     let status = resolve(
@@ -56,44 +70,172 @@ fn ends(
         &mut noted,
         &mut shelf,
     );
-    let same = status.number() == number
-        && written.held.as_slice() == out.as_bytes()
-        && noted.held.as_slice() == notes.as_bytes();
+    let same = status.number() == end.number
+        && written.held.as_slice() == end.out.as_bytes()
+        && noted.held.as_slice() == end.notes.as_bytes();
     Ok(same)
 }
 
+// Words, text, input, status number, out and notes.
+type Row = (
+    &'static str,
+    &'static str,
+    &'static str,
+    u8,
+    &'static str,
+    &'static str,
+);
+
+// The number of the first row that ends otherwise, from 0.
+fn first_other(rt: &HostRuntime, rows: &[Row]) -> Result<Option<usize>, Fail> {
+    for (at, row) in rows.iter().enumerate() {
+        let (line, text, input, number, out, notes) = *row;
+        let call = Call { line, text, input };
+        let end = End { number, out, notes };
+        if !ends(rt, &call, &end)? {
+            return Ok(Some(at));
+        }
+    }
+    Ok(None)
+}
+
 #[test]
-fn rows_are_met(rt: HostRuntime) -> Result<(), Fail> {
+fn literals_are_written(rt: HostRuntime) -> Result<(), Fail> {
     let rows = [
-        ("run a", ONE_TWO, 0, "1\n2\n", ""),
+        ("run a", ONE_TWO, "", 0, "1\n2\n", ""),
         (
             "run a",
             TWO_ONE,
+            "",
             1,
             "",
             "refused One_Two: Unproved One_Two.Main.1 ensures at 165\n",
         ),
-        ("run a", SILENT, 0, "", ""),
-        ("run a", NEGATIVE, 0, "-7\n", ""),
+        ("run a", SILENT, "", 0, "", ""),
+        ("run a", NEGATIVE, "", 0, "-7\n", ""),
+        (
+            "run a --steps 3",
+            ONE_TWO,
+            "",
+            10,
+            "1\n",
+            "steps spent: 3\n",
+        ),
+        (
+            "run a --steps 4",
+            ONE_TWO,
+            "",
+            10,
+            "1\n2\n",
+            "steps spent: 4\n",
+        ),
+        ("run a --steps 5", ONE_TWO, "", 0, "1\n2\n", ""),
+    ];
+    assert_eq!(rt; first_other(&rt, &rows)?, None);
+    Ok(())
+}
+
+#[test]
+fn other_texts_and_words_are_refused(rt: HostRuntime) -> Result<(), Fail> {
+    let rows = [
         (
             "run a",
             "Facility X; end X;",
+            "",
             1,
             "",
             "refused a: NotYet at 12\n",
         ),
-        ("run a", "", 1, "", "refused a: NotYet at 0\n"),
-        ("run a", "Facility $", 1, "", "refused a: BadByte at 9\n"),
-        ("fly a", ONE_TWO, 2, "", "bad words\n"),
-        ("run b", ONE_TWO, 3, "", "not found: b\n"),
-        ("verify a", ONE_TWO, 15, "", "not built\n"),
+        ("run a", "", "", 1, "", "refused a: NotYet at 0\n"),
+        (
+            "run a",
+            "Facility $",
+            "",
+            1,
+            "",
+            "refused a: BadByte at 9\n",
+        ),
+        ("fly a", ONE_TWO, "", 2, "", "bad words\n"),
+        ("run --steps 0 a", ONE_TWO, "", 2, "", "bad words\n"),
+        ("run b", ONE_TWO, "", 3, "", "not found: b\n"),
+        ("verify a", ONE_TWO, "", 15, "", "not built\n"),
     ];
-    for (line, text, number, out, notes) in rows {
-        assert!(rt;
-            ends(&rt, line, text, number, out, notes)?,
-            "{line}: {notes}"
-        );
+    assert_eq!(rt; first_other(&rt, &rows)?, None);
+    Ok(())
+}
+
+#[test]
+fn numbers_are_doubled(rt: HostRuntime) -> Result<(), Fail> {
+    let rows = [
+        (
+            "run a",
+            DOUBLER,
+            "21",
+            1,
+            "",
+            "refused Doubler: Unproved Doubler.Main.2 range at 181\n",
+        ),
+        ("run a", GUARDED, "21", 0, "42\n", ""),
+        ("run a", GUARDED, "1001", 0, "", ""),
+        ("run a", GUARDED, "", 0, "", ""),
+        ("run a", GUARDED, "x", 7, "", "bad input: NoNumber at 0\n"),
+    ];
+    assert_eq!(rt; first_other(&rt, &rows)?, None);
+    Ok(())
+}
+
+// A text of so many numbers 0, with blanks between them.
+fn zeros(alloc: Global, count: usize) -> Result<Vec<u8>, AllocError> {
+    let mut text = Vec::new(alloc);
+    for k in 0..count {
+        if k > 0 {
+            text.push(b' ')?;
+        }
+        text.push(b'0')?;
     }
+    Ok(text)
+}
+
+#[test]
+fn an_input_has_a_limit(rt: HostRuntime) -> Result<(), Fail> {
+    let alloc = rt.alloc();
+    let words = words_of(alloc, "run a")?;
+    let mut shelf = shelf_with(alloc, GUARDED);
+    let mut input = CalmSource::new(zeros(alloc, 65536)?);
+    let mut written = CalmSink::new(alloc);
+    let mut noted = CalmSink::new(alloc);
+    let status = resolve(
+        alloc,
+        words.as_slice(),
+        &mut input,
+        &mut written,
+        &mut noted,
+        &mut shelf,
+    );
+    assert_eq!(rt; status.number(), 7);
+    assert!(rt; noted.held.as_slice() == b"bad input: TooMany at 131070\n".as_slice());
+    Ok(())
+}
+
+#[test]
+fn a_source_that_fails_is_said(rt: HostRuntime) -> Result<(), Fail> {
+    let alloc = rt.alloc();
+    let words = words_of(alloc, "run a")?;
+    let mut shelf = shelf_with(alloc, GUARDED);
+    let mut input = MemSource::new(Vec::from_slice(alloc, b"21")?, vec![in alloc; 1]?);
+    let mut written = CalmSink::new(alloc);
+    let mut noted = CalmSink::new(alloc);
+    let status = resolve(
+        alloc,
+        words.as_slice(),
+        &mut input,
+        &mut written,
+        &mut noted,
+        &mut shelf,
+    );
+    assert!(rt; matches!(status, Status::SourceFault));
+    assert!(rt; written.held.as_slice().is_empty());
+    assert!(rt; noted.held.as_slice() == b"source fault\n".as_slice());
     Ok(())
 }
 

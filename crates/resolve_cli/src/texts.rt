@@ -4,9 +4,11 @@ ghost use Rattle.std.specs.Prelude.{◌≡◌, ◌++◌, IfOk, OnOk, codes, deci
 ghost use Rattle.resolve_cli.specs.Texts as spec;
 
 use itoa::Buffer;
+use main_prover::Unproved;
 use math_terms::{Name, NoMemory};
 use res_lexer::LexError;
 use std::alloc::Global;
+use vc_sequents::VcKind;
 
 fn put(line: &mut Vec<u8>, text: &[u8]) -> Result<(), NoMemory>
     ensures { OnOk result (line.new.items ≡ line.old.items ++ text.now) }
@@ -77,21 +79,53 @@ pub fn not_yet_line(alloc: Global, file: &[u8], at: u32) -> Result<Name, NoMemor
     refused_line(alloc, file, b"NotYet", at)
 }
 
-// `Unproved NAME.Main.1 ensures`
-fn unproved_kind(alloc: Global, name: &[u8]) -> Result<Vec<u8>, NoMemory>
-    ensures { IfOk result (λ kind. kind.items ≡ spec.unproved_kind name.now) }
+/// The word of a kind of conditions.
+pub fn kind_text(kind: VcKind) -> &'static [u8]
+    ensures { result.now ≡ spec.kind_text kind }
+{
+    match kind {
+        VcKind::Facility => b"facility",
+        VcKind::Constraint => b"constraint",
+        VcKind::InitConvention => b"init_convention",
+        VcKind::InitEnsures => b"init_ensures",
+        VcKind::Requires => b"requires",
+        VcKind::Range => b"range",
+        VcKind::Divisor => b"divisor",
+        VcKind::Entry => b"entry",
+        VcKind::Keep => b"keep",
+        VcKind::Progress => b"progress",
+        VcKind::Metric => b"metric",
+        VcKind::Ensures => b"ensures",
+        VcKind::ModeExit => b"mode_exit",
+        VcKind::Convention => b"convention",
+    }
+}
+
+fn put_number(line: &mut Vec<u8>, number: u32) -> Result<(), NoMemory>
+    ensures { OnOk result (line.new.items ≡ line.old.items ++ decimal number) }
+{
+    let mut buffer = Buffer::new();
+    put(line, buffer.format(number).as_bytes())
+}
+
+// `Unproved NAME.Main.K KIND`
+fn unproved_kind(alloc: Global, name: &[u8], unproved: Unproved) -> Result<Vec<u8>, NoMemory>
+    ensures { IfOk result (λ kind. kind.items ≡ spec.unproved_kind name.now unproved) }
 {
     let mut kind = Vec::new(alloc);
     put(&mut kind, b"Unproved ")?;
     put(&mut kind, name)?;
-    put(&mut kind, b".Main.1 ensures")?;
+    put(&mut kind, b".Main.")?;
+    put_number(&mut kind, unproved.number)?;
+    put(&mut kind, b" ")?;
+    put(&mut kind, kind_text(unproved.kind))?;
     Ok(kind)
 }
 
 /// The line of a module whose condition is not proved.
-pub fn unproved_line(alloc: Global, name: &[u8], at: u32) -> Result<Name, NoMemory>
-    ensures { IfOk result (λ line. line ≡ spec.unproved_line name.now at) }
+pub fn unproved_line(alloc: Global, name: &[u8], unproved: Unproved) -> Result<Name, NoMemory>
+    ensures { IfOk result (λ line. line ≡ spec.unproved_line name.now unproved) }
 {
-    let kind = unproved_kind(alloc, name)?;
-    refused_line(alloc, name, kind.as_slice(), at)
+    let kind = unproved_kind(alloc, name, unproved)?;
+    refused_line(alloc, name, kind.as_slice(), unproved.at)
 }

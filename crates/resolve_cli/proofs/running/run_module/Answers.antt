@@ -1,22 +1,21 @@
-use Rattle.resolve_cli.proofs.Ran.{image_goes_on, halted_grew, fault_grew, not_spent, memory_grew}
+use Rattle.std.proofs.Common.{◌≡◌, ◌∙◌, sym, ap, refl, subst, inr}
+use Rattle.std.specs.Prelude.{IfOk}
+use Rattle.resolve_cli.specs.declared.status.Status.TheVariants as status
+use Rattle.resolve_cli.specs.Answer as stage
+use Rattle.resolve_cli.specs.Answer.{ModuleAnswer}
+use Rattle.resolve_cli.specs.Texts.{unproved_line}
+use Rattle.resolve_cli.proofs.Stages.{nothing_cut, refused_answered}
 use Rattle.resolve_cli.proofs.running.run_module.Goals as goal
 
-pub run-requires-clause-never_stuck : goal.run-requires-clause-never_stuck
-run-requires-clause-never_stuck g c =
-    image_goes_on c.halted_stays.ensures c.args.form.now c.requires.small.written c.in-Ok.image c.in-Ok.ensures c.args.steps c.requires.enough
+pub returns-in-Ok-Some-clause-answered : goal.returns-in-Ok-Some-clause-answered
+returns-in-Ok-Some-clause-answered g c =
+    let m = c.args.m.now in
+    let held = g.K.Sink.held c.args.out.now in
+    let first = rw c.in-Ok-Some.field-0-is at c.in-Ok-Some.ensures in
+    let lined = subst (λ name. IfOk c.unproved_line.result (λ l. l ≡ unproved_line name c.in-Ok-Some.unproved)) c.bytes.ensures c.unproved_line.ensures in
+    refused_answered (ModuleAnswer m c.args.steps) (g.S.Source.left c.args.input.now) held c.unproved_line.result c.refused.result (unproved_line m.name c.in-Ok-Some.unproved) c.refused.ensures lined (λ input. stage.unproved c.in-Ok-Some.unproved first refl refl) (c.unchanged.ensures held)
 
-pub returns-in-Halted-clause-ran : goal.returns-in-Halted-clause-ran
-returns-in-Halted-clause-ran g c =
-    halted_grew c.halted_stays.ensures c.args.form.now c.requires.small.written c.in-Ok.image c.in-Ok.ensures c.args.steps c.requires.enough (g.K.Sink.held c.args.out.now) (g.K.Sink.held c.run.new.out) c.in-Halted.ensures.stopped
-
-pub returns-in-SinkFault-clause-ran : goal.returns-in-SinkFault-clause-ran
-returns-in-SinkFault-clause-ran g c =
-    fault_grew c.halted_stays.ensures c.args.form.now c.requires.small.written c.in-Ok.image c.in-Ok.ensures c.args.steps c.requires.enough (g.K.Sink.held c.args.out.now) (g.K.Sink.held c.run.new.out) c.in-SinkFault.ensures.stopped
-
-pub returns-in-NoMemory-clause-ran : goal.returns-in-NoMemory-clause-ran
-returns-in-NoMemory-clause-ran g c =
-    memory_grew c.halted_stays.ensures c.args.form.now c.requires.small.written c.in-Ok.image c.in-Ok.ensures c.args.steps c.requires.enough c.output_grows.ensures (g.K.Sink.held c.args.out.now) (g.K.Sink.held c.run.new.out) c.in-NoMemory.ensures.stopped
-
-pub unreachable-requires : goal.unreachable-requires
-unreachable-requires g c =
-    not_spent c.halted_stays.ensures c.args.form.now c.requires.small.written c.in-Ok.image c.in-Ok.ensures c.args.steps c.requires.enough (g.K.Sink.held c.args.out.now) (g.K.Sink.held c.run.new.out) c.in-StepsSpent.ensures.stopped
+pub returns-in-Err-clause-answered : goal.returns-in-Err-clause-answered
+returns-in-Err-clause-answered g c =
+    let held = g.K.Sink.held c.args.out.now in
+    nothing_cut (ModuleAnswer c.args.m.now c.args.steps) (g.S.Source.left c.args.input.now) status.NoMemory held (inr refl) (c.unchanged.ensures held)

@@ -1,5 +1,0 @@
-use Rattle.resolve_cli.proofs.Computing.{truth_found}
-use Rattle.resolve_cli.proofs.proving.is_true.Goals as goal
-
-pub returns : goal.returns
-returns c = truth_found c.args.f.now c.in_ok-found.found c.is_some_true.result c.in_ok-found.ensures c.is_some_true.ensures
