@@ -13,10 +13,10 @@ cp examples/Double.fa "$room/"
     echo "  Operation Main(updates In: In_Stream; updates Out: Out_Stream);"
     echo "    ensures true;"
     echo "  Procedure"
-    echo "    Var A, B: Integer;"
-    for k in $(seq 1 8); do echo "If $k <= Remaining(In) then Read(A, In);"; done
+    echo "    Var Number, Other: Integer;"
+    for k in $(seq 1 8); do echo "If $k <= Remaining(In) then Read(Number, In);"; done
     for k in $(seq 1 8); do echo "end;"; done
-    for k in $(seq 1 22); do echo "B := $k; Write(B, Out);"; done
+    for k in $(seq 1 22); do echo "Other := $k; Write(Other, Out);"; done
     echo "  end Main;"
     echo "end Nested;"
 } >"$room/Nested.fa"
