@@ -1,1 +1,16 @@
+pub mod Counts
+pub mod Ends
+pub mod Filling
+pub mod Giving
+pub mod KindTests
 pub mod Legal
+pub mod Made
+pub mod Naming
+pub mod Needing
+pub mod Opening
+pub mod Repeating
+pub mod Showing
+pub mod Sizes
+pub mod Splits
+pub mod Telling
+pub mod Walks

@@ -1,8 +1,17 @@
-//! When certificates are legal, and what they show.
+//! Checking certificates.
 #![tactic(auto)]
 
+mod cases;
+mod closing;
+mod desk;
 mod laws;
+mod path;
+mod places;
+#[cfg(test)]
+mod tests;
 mod verdict;
+mod walk;
 
+pub use desk::{Desk, check};
 pub use laws::legal_is_valid;
 pub use verdict::Verdict;

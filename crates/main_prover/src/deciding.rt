@@ -7,10 +7,11 @@ ghost use Rattle.main_vcs.specs.Walk.{Condition};
 ghost use Rattle.main_prover.specs.Deciding.{IsComputedGoal, IsTrueAtEnd};
 ghost use Rattle.main_prover.specs.Proving.{IsChain, IsProved, IsTrueFormula, sequent_of};
 
+use crate::checking::checked_certificate;
 use main_form::{Claim, Module};
 use math_terms::{NoMemory, Term, substitute, truth};
 use std::alloc::Global;
-use vc_prover::{ProveError, prove};
+use vc_prover::ProveError;
 use vc_sequents::{Sequent, VcKind};
 
 fn is_some_true(found: Option<bool>) -> bool
@@ -86,7 +87,7 @@ pub(crate) fn is_proved(
 ) -> Result<bool, NoMemory>
     ensures { IfOk result (λ b. (c : Condition) → c.kind ≡ kind → sequent_of c ≡ s.now → IsTrue b ↔ IsProved m.now c) }
 {
-    match prove(alloc, s) {
+    match checked_certificate(alloc, s) {
         Ok(_) => Ok(true),
         Err(ProveError::Open) => is_computed(alloc, m, kind, &s.goal),
         Err(ProveError::NoMemory) => Err(NoMemory),

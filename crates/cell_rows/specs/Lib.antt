@@ -1,0 +1,9 @@
+pub mod Forms
+pub mod RowsStand
+pub mod Facts
+pub mod AtomsStand
+pub mod Finding
+pub mod Columns
+pub mod RowsIn
+pub mod Small
+pub mod Tame

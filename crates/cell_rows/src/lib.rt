@@ -1,0 +1,21 @@
+//! The rows of sequents whose formulas stand in cells.
+#![tactic(auto)]
+
+mod atoms;
+mod columns;
+mod difference;
+mod fact;
+mod filling;
+mod forms;
+mod formula;
+mod gathering;
+mod lines;
+mod naming;
+mod order;
+mod refuting;
+mod room;
+#[cfg(test)]
+mod tests;
+
+pub use difference::Short;
+pub use room::Room;

@@ -1,0 +1,13 @@
+use Rattle.std.proofs.Common.{sym, ◌∙◌, map}
+use Rattle.math_terms.specs.Kinds.{sort_of_desc}
+use Rattle.cert_check.proofs.Splits.{unequal_numbers, unequal_truths, unequal_others}
+use Rattle.cert_check.proofs.cases.inequation_cases.Goals as goal
+
+pub returns-then-are_numbers : goal.returns-then-are_numbers
+returns-then-are_numbers c = λ t u left right. unequal_numbers c.args.cells.now.0 (map (λ v. sort_of_desc v.1) c.args.vars.now) c.args.a c.args.b t u left right (sym (c.are_numbers.ensures t u left right) ∙ c.if-are_numbers.true)
+
+pub returns-then-not-are_truths : goal.returns-then-not-are_truths
+returns-then-not-are_truths c = λ t u left right. unequal_others c.args.cells.now.0 (map (λ v. sort_of_desc v.1) c.args.vars.now) c.args.a c.args.b t u left right (sym (c.are_numbers.ensures t u left right) ∙ c.if-are_numbers.false) (sym (c.are_truths.ensures t u left right) ∙ c.if-not-are_truths.true)
+
+pub returns : goal.returns
+returns c = λ t u left right. unequal_truths c.args.cells.now.0 (map (λ v. sort_of_desc v.1) c.args.vars.now) c.args.a c.args.b t u left right (sym (c.are_numbers.ensures t u left right) ∙ c.if-are_numbers.false) (sym (c.are_truths.ensures t u left right) ∙ c.if-not-are_truths.false)
