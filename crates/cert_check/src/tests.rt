@@ -2,28 +2,39 @@
 
 use crate::{Desk, Verdict, check};
 use cert_form::{Cert, Step};
-use math_terms::{Desc, Formula, Items, Name, NoMemory, Shape, Term, boxed};
+use math_terms::{Boxed, Desc, Formula, Items, Name, NoMemory, Shape, Term, boxed};
 use std::alloc::Global;
 use std::test::Fail;
 use vc_sequents::Sequent;
 
-/// A sequent of one hypothesis about a variable `B` of truth values, whose goal is that variable.
-fn of_hypothesis(alloc: Global, hyp: Formula) -> Result<Sequent, NoMemory> {
+/// A variable `B` of truth values.
+fn variable(alloc: Global) -> Result<(Name, Desc), NoMemory> {
+    let name = Name::new(alloc, b"B")?;
     let desc = Desc {
         shape: Shape::B,
         constraint: Term::Truth(true),
         initial: Term::Truth(true),
     };
-    let mut vars = Items::new(alloc);
-    vars.push((Name::new(alloc, b"B")?, desc))?;
-    let mut hyps = Items::new(alloc);
-    hyps.push(hyp)?;
-    Ok(Sequent {
+    Ok((name, desc))
+}
+
+fn one<T: Drop>(alloc: Global, x: T) -> Result<Items<T>, NoMemory> {
+    let mut out = Items::new(alloc);
+    out.push(x)?;
+    Ok(out)
+}
+
+/// A sequent of one hypothesis about a variable `B` of truth values, whose goal is that variable.
+fn of_hypothesis(alloc: Global, hyp: Formula) -> Result<Boxed<Sequent>, NoMemory> {
+    let hyps = one(alloc, hyp)?;
+    let vars = one(alloc, variable(alloc)?)?;
+    let s = Sequent {
         vars,
         params: 0,
         hyps,
         goal: Term::Var(1),
-    })
+    };
+    Ok(Boxed::new(alloc, s)?)
 }
 
 /// Where the step is the only one.
@@ -48,7 +59,7 @@ fn answer(alloc: Global, nodes: u64, cert: &Cert, s: &Sequent) -> Result<Verdict
 fn a_goal_among_the_hypotheses_is_legal(rt: HostRuntime) -> Result<(), Fail> {
     let s = of_hypothesis(rt.alloc(), Term::Var(1))?;
     let cert = only(rt.alloc(), Step::Hyp(1))?;
-    assert_eq!(rt; answer(rt.alloc(), 1000, &cert, &s)?, Verdict::Legal);
+    assert_eq!(rt; answer(rt.alloc(), 1000, &cert, s.get())?, Verdict::Legal);
     Ok(())
 }
 
@@ -57,7 +68,7 @@ fn a_hypothesis_that_is_not_there_is_illegal(rt: HostRuntime) -> Result<(), Fail
     let s = of_hypothesis(rt.alloc(), Term::Var(1))?;
     let cert = only(rt.alloc(), Step::Hyp(2))?;
     assert_eq!(rt;
-        answer(rt.alloc(), 1000, &cert, &s)?,
+        answer(rt.alloc(), 1000, &cert, s.get())?,
         Verdict::Illegal { step: 0 }
     );
     Ok(())
@@ -67,7 +78,7 @@ fn a_hypothesis_that_is_not_there_is_illegal(rt: HostRuntime) -> Result<(), Fail
 fn a_desk_of_one_node_is_full(rt: HostRuntime) -> Result<(), Fail> {
     let s = of_hypothesis(rt.alloc(), Term::Var(1))?;
     let cert = only(rt.alloc(), Step::Hyp(1))?;
-    assert_eq!(rt; answer(rt.alloc(), 1, &cert, &s)?, Verdict::DeskFull);
+    assert_eq!(rt; answer(rt.alloc(), 1, &cert, s.get())?, Verdict::DeskFull);
     Ok(())
 }
 
@@ -97,7 +108,7 @@ fn by_cases_and_more(alloc: Global) -> Result<Cert, NoMemory> {
 fn both_sequents_of_a_split_are_checked(rt: HostRuntime) -> Result<(), Fail> {
     let s = of_hypothesis(rt.alloc(), either(rt.alloc())?)?;
     let cert = by_cases(rt.alloc())?;
-    assert_eq!(rt; answer(rt.alloc(), 1000, &cert, &s)?, Verdict::Legal);
+    assert_eq!(rt; answer(rt.alloc(), 1000, &cert, s.get())?, Verdict::Legal);
     Ok(())
 }
 
@@ -106,7 +117,7 @@ fn a_step_too_many_is_illegal(rt: HostRuntime) -> Result<(), Fail> {
     let s = of_hypothesis(rt.alloc(), either(rt.alloc())?)?;
     let cert = by_cases_and_more(rt.alloc())?;
     assert_eq!(rt;
-        answer(rt.alloc(), 1000, &cert, &s)?,
+        answer(rt.alloc(), 1000, &cert, s.get())?,
         Verdict::Illegal { step: 3 }
     );
     Ok(())

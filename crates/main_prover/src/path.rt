@@ -1,6 +1,6 @@
 //! Points of paths.
 
-ghost use Rattle.std.specs.Prelude.{◌≡◌, ◌+◌, ◌++◌, [], ◌∷◌, IfOk, OnOk, pos, slice_index_or, slice_set, map};
+ghost use Rattle.std.specs.Prelude.{◌≡◌, ◌+◌, ◌++◌, [], ◌∷◌, IfOk, OnOk, Ok, pos, slice_index_or, slice_set, map};
 ghost use Rattle.main_vcs.specs.Terms as spec;
 ghost use Rattle.main_vcs.specs.Walk as walk;
 ghost use Rattle.main_prover.specs.Points.{assigned, counted, known_more, point_of, sequent_at, split, written};
@@ -13,6 +13,7 @@ use main_form::Module;
 use math_terms::{Desc, Name, NoMemory, Term, copy_terms};
 use sqlite_items::Items;
 use std::alloc::Global;
+use std::mem::replace;
 use vc_sequents::Sequent;
 
 /// The term of each variable, of the input and of the output.
@@ -95,12 +96,26 @@ fn first_hyps(alloc: Global) -> Result<Items<Term>, NoMemory>
 fn first_vars(alloc: Global, m: &Module) -> Result<Items<(Name, Desc)>, NoMemory>
     ensures { IfOk result (λ vs. vs ≡ (m.now.input, spec.stream) ∷ (m.now.output, spec.stream) ∷ []) }
 {
-    let input = (m.input.copy(alloc)?, stream(alloc)?);
-    let output = (m.output.copy(alloc)?, stream(alloc)?);
     let mut vars = Items::new(alloc);
-    vars.push(input)?;
-    vars.push(output)?;
+    vars.push(both(m.input.copy(alloc), stream(alloc))?)?;
+    vars.push(both(m.output.copy(alloc), stream(alloc))?)?;
     Ok(vars)
+}
+
+/// Both values, where memory sufficed for both.
+fn both<T: Drop, U: Drop>(
+    a: Result<T, NoMemory>,
+    b: Result<U, NoMemory>,
+) -> Result<(T, U), NoMemory>
+    ensures { IfOk result (λ p. (a ≡ Ok p.0) × (b ≡ Ok p.1)) }
+{
+    match a {
+        Ok(a) => match b {
+            Ok(b) => Ok((a, b)),
+            Err(e) => Err(e),
+        },
+        Err(e) => Err(e),
+    }
 }
 
 fn first_terms(alloc: Global, names: &[Name]) -> Result<Items<Term>, NoMemory>
@@ -130,8 +145,7 @@ impl Values {
         ensures { IfOk result (λ v. v ≡ self.now) }
     {
         let terms = copy_terms(alloc, self.terms.as_slice())?;
-        let input = self.input.copy(alloc)?;
-        let output = self.output.copy(alloc)?;
+        let (input, output) = both(self.input.copy(alloc), self.output.copy(alloc))?;
         Ok(Values {
             terms,
             input,
@@ -213,9 +227,8 @@ impl Path {
     pub(crate) fn copy(&self, alloc: Global) -> Result<Path, NoMemory>
         ensures { IfOk result (λ p. p ≡ self.now) }
     {
-        let values = self.values.copy(alloc)?;
-        let known = self.known.copy(alloc)?;
-        let counts = self.counts.copy(alloc)?;
+        let rest = both(self.known.copy(alloc), self.counts.copy(alloc));
+        let (values, (known, counts)) = both(self.values.copy(alloc), rest)?;
         Ok(Path {
             values,
             known,
@@ -316,25 +329,25 @@ impl Path {
     fn add_vars(&mut self, alloc: Global, m: &Module, k: u32) -> Result<(), NoMemory>
         ensures { OnOk result (point_of self.new ≡ known_more (walk.names_of m.now) m.now.input k (point_of self.old)) }
     {
-        let number = self.number_var(alloc, m, k)?;
-        let rest = self.rest_var(alloc, m)?;
-        self.known.vars.push(number)?;
-        self.known.vars.push(rest)?;
-        Ok(())
+        let (number, rest) = both(self.number_var(alloc, m, k), self.rest_var(alloc, m))?;
+        push_two(&mut self.known.vars, number, rest)
     }
 
     // Adds the facts on them, by the number of the first.
     fn split_input(&mut self, alloc: Global, number: u32) -> Result<(), NoMemory>
         ensures { OnOk result (point_of self.new ≡ split number (point_of self.old)) }
     {
-        self.suppose_bounds(alloc, &Term::Var(number))?;
+        let variable = Term::Var(number);
+        let supposed = self.suppose_bounds(alloc, &variable);
+        drop(variable);
+        supposed?;
         let rest = next(number)?;
-        let input = self.values.input.copy(alloc)?;
         let first = single(alloc, Term::Var(number))?;
-        let whole = cat(alloc, first, Term::Var(rest))?;
+        let whole = cat(alloc, first, Term::Var(rest));
+        let (input, whole) = both(self.values.input.copy(alloc), whole)?;
         let fact = equal(alloc, input, whole)?;
         self.suppose(fact)?;
-        self.values.input = Term::Var(rest);
+        drop(replace(&mut self.values.input, Term::Var(rest)));
         Ok(())
     }
 
@@ -356,4 +369,12 @@ impl Path {
         self.split_input(alloc, number)?;
         self.count_read(k, number)
     }
+}
+
+fn push_two<T: Drop>(items: &mut Items<T>, x: T, y: T) -> Result<(), NoMemory>
+    ensures { OnOk result (items.new ≡ items.old ++ x ∷ y ∷ []) }
+{
+    items.push(x)?;
+    items.push(y)?;
+    Ok(())
 }

@@ -1,6 +1,6 @@
 //! What each token within a body does.
 
-ghost use Rattle.std.specs.Prelude.{◌≡◌, ◌↔◌, ℕ, IfOk, IsTrue, None, Some, [], ◌∷◌, length, pos, ltb, true, false};
+ghost use Rattle.std.specs.Prelude.{◌≡◌, ◌↔◌, ℕ, IfOk, Ok, IsTrue, None, Some, [], ◌∷◌, length, pos, ltb, true, false};
 ghost use Rattle.main_form.specs.Spelling.{declared, small_digits};
 ghost use Rattle.main_reader.specs.States.{Goal, to_body, State, at, fresh, ground_level, literal, filled, with_literal};
 ghost use Rattle.main_reader.specs.Steps.{with_more, reading_next, operand_next, guarding_next, guarded_next, out_of_guard, into_then, bare_next, use_next, inner_next, valued_next, begun_next, else_next, end_next, statement_next, spot_next};
@@ -170,7 +170,7 @@ fn operand(
             if is_small(digits) {
                 literal_comes(alloc, base, block, pending, outer, purpose, digits)
             } else {
-                Ok(None)
+                refused((base, block, pending, outer, purpose))
             }
         }
         Mark::Variable(number) => {
@@ -192,7 +192,7 @@ fn operand(
         }
         Mark::Opening => bracket_opens(alloc, base, block, pending, outer, purpose),
         Mark::Dash => minus_comes(base, block, pending, outer, purpose, place),
-        _ => Ok(None),
+        _ => refused((base, block, pending, outer, purpose)),
     }
 }
 
@@ -504,7 +504,8 @@ fn bracket_closes(
 ) -> Result<Option<Progress>, NoMemory>
     ensures { IfOk result (IsStep (inner_next base block e (pending ∷ outer) purpose Mark.Closing)) }
 {
-    let all = trees::brackets(alloc, e)?;
+    let state = (base, block, pending, outer, purpose);
+    let (all, (base, block, pending, outer, purpose)) = with(trees::brackets(alloc, e), state)?;
     operand_comes(alloc, NOTHING, base, block, pending, outer, purpose, all)
 }
 
@@ -740,5 +741,23 @@ pub fn step(
         }
         Spot::Guarding(level, outer) => guarding(alloc, base, block, level, outer, mark, place),
         Spot::Guarded(g, level, outer) => guarded(alloc, base, block, g, level, outer, mark),
+    }
+}
+
+/// The answer where a mark does not fit, which lets go of what was read.
+fn refused<T: Drop>(state: T) -> Result<Option<Progress>, NoMemory>
+    ensures { result ≡ Ok None }
+{
+    drop(state);
+    Ok(None)
+}
+
+/// The first value and the second, where memory sufficed for the first.
+fn with<T: Drop, U: Drop>(a: Result<T, NoMemory>, b: U) -> Result<(T, U), NoMemory>
+    ensures { IfOk result (λ p. (a ≡ Ok p.0) × (p.1 ≡ b)) }
+{
+    match a {
+        Ok(a) => Ok((a, b)),
+        Err(e) => Err(e),
     }
 }

@@ -5,7 +5,7 @@ ghost use Rattle.math_terms.specs.Kinds.{forget, sort_of_desc, sort_of_shape};
 ghost use Rattle.math_terms.specs.Sorts.{any, b, is_b, is_str, is_z, str, z};
 
 use crate::name::NoMemory;
-use crate::term::Term;
+use crate::term::{Term, both};
 use sqlite_items::{Boxed, Items};
 use std::alloc::Global;
 
@@ -46,10 +46,12 @@ impl Desc {
     pub fn copy(&self, alloc: Global) -> Result<Desc, NoMemory>
         ensures { IfOk result (λ d. d ≡ self.now) }
     {
+        let terms = both(self.constraint.copy(alloc), self.initial.copy(alloc));
+        let (shape, (constraint, initial)) = both(self.shape.copy(alloc), terms)?;
         Ok(Desc {
-            shape: self.shape.copy(alloc)?,
-            constraint: self.constraint.copy(alloc)?,
-            initial: self.initial.copy(alloc)?,
+            shape,
+            constraint,
+            initial,
         })
     }
 }

@@ -259,11 +259,11 @@ fn copy_boxed(alloc: Global, a: &Boxed<Term>) -> Result<Boxed<Term>, NoMemory>
     boxed(alloc, a.get().copy(alloc)?)
 }
 
-/// Both terms, where memory sufficed for both.
-pub(crate) fn both(
-    a: Result<Boxed<Term>, NoMemory>,
-    b: Result<Boxed<Term>, NoMemory>,
-) -> Result<(Boxed<Term>, Boxed<Term>), NoMemory>
+/// Both values, where memory sufficed for both.
+pub(crate) fn both<T: Drop, U: Drop>(
+    a: Result<T, NoMemory>,
+    b: Result<U, NoMemory>,
+) -> Result<(T, U), NoMemory>
     ensures { IfOk result (λ p. (a ≡ Ok p.0) × (b ≡ Ok p.1)) }
 {
     match a {

@@ -6,7 +6,7 @@ ghost use Rattle.math_terms.specs.declared.term.Term.TheOpen.{Term-F};
 ghost use Rattle.math_terms.specs.declared.term.Term.TheViews.{out-Term};
 ghost use Rattle.vc_sequents.specs.Splitting.{form_cases, form_goals, goal_cases, hypothesis_cases, negation_cases, not as not_of, of_numbers, of_truths, one_case, one_goal, two_cases, two_goals};
 
-use crate::formulas::{first_alone, implication, less, less_eq, negation, neither, not_both};
+use crate::formulas::{both, first_alone, implication, less, less_eq, negation, neither, not_both};
 use math_terms::{Formula, NoMemory, Sort, Term, kind_of};
 use sqlite_items::Items;
 use std::alloc::{AllocError, Global};
@@ -34,8 +34,14 @@ pub(crate) fn hypothesis_cases(
             }
         }
         Term::And(a, b) => one_case(alloc, two_formulas(alloc, a.get(), b.get())?),
-        Term::Or(a, b) => either(alloc, a.get().copy(alloc)?, b.get().copy(alloc)?),
-        Term::Implies(a, b) => either(alloc, negation(alloc, a.get())?, b.get().copy(alloc)?),
+        Term::Or(a, b) => {
+            let (first, second) = both(a.get().copy(alloc), b.get().copy(alloc))?;
+            either(alloc, first, second)
+        }
+        Term::Implies(a, b) => {
+            let (f, g) = both(negation(alloc, a.get()), b.get().copy(alloc))?;
+            either(alloc, f, g)
+        }
         Term::Not(a) => negation_cases(alloc, sorts, a.get()),
         Term::Eq(a, b) => equal_truths(alloc, sorts, a.get(), b.get()),
         _ => Ok(None),
@@ -64,9 +70,18 @@ pub(crate) fn goal_cases(alloc: Global, sorts: &[Sort], f: &Formula) -> Result<G
     ensures { IfOk result (λ o. option_map (λ v. v.items) o ≡ goal_cases sorts.now f.now) }
 {
     match f {
-        Term::And(a, b) => two_goals(alloc, a.get().copy(alloc)?, b.get().copy(alloc)?),
-        Term::Or(a, b) => one_goal(alloc, negation(alloc, a.get())?, b.get().copy(alloc)?),
-        Term::Implies(a, b) => one_goal(alloc, a.get().copy(alloc)?, b.get().copy(alloc)?),
+        Term::And(a, b) => {
+            let (f, g) = both(a.get().copy(alloc), b.get().copy(alloc))?;
+            two_goals(alloc, f, g)
+        }
+        Term::Or(a, b) => {
+            let (f, goal) = both(negation(alloc, a.get()), b.get().copy(alloc))?;
+            one_goal(alloc, f, goal)
+        }
+        Term::Implies(a, b) => {
+            let (f, goal) = both(a.get().copy(alloc), b.get().copy(alloc))?;
+            one_goal(alloc, f, goal)
+        }
         Term::Not(a) => one_goal(alloc, a.get().copy(alloc)?, Term::Truth(false)),
         Term::Eq(a, b) => equation_goals(alloc, sorts, a.get(), b.get()),
         _ => Ok(None),
@@ -92,7 +107,8 @@ fn unequal(alloc: Global, sorts: &[Sort], a: &Formula, b: &Formula) -> Result<Ca
     ensures { IfOk result (λ o. option_map (λ v. v.items) o ≡ negation_cases sorts.now (Term-F.Eq a.now b.now)) }
 {
     if both_numbers(alloc, sorts, a, b)? {
-        return either(alloc, less(alloc, a, b)?, less(alloc, b, a)?);
+        let (f, g) = both(less(alloc, a, b), less(alloc, b, a))?;
+        return either(alloc, f, g);
     }
     if both_truths(alloc, sorts, a, b)? {
         return two_cases(
@@ -114,10 +130,12 @@ fn equation_goals(
     ensures { IfOk result (λ o. option_map (λ v. v.items) o ≡ form_goals sorts.now (Term-F.Eq a.now b.now)) }
 {
     if both_numbers(alloc, sorts, a, b)? {
-        return two_goals(alloc, less_eq(alloc, a, b)?, less_eq(alloc, b, a)?);
+        let (f, g) = both(less_eq(alloc, a, b), less_eq(alloc, b, a))?;
+        return two_goals(alloc, f, g);
     }
     if both_truths(alloc, sorts, a, b)? {
-        return two_goals(alloc, implication(alloc, a, b)?, implication(alloc, b, a)?);
+        let (f, g) = both(implication(alloc, a, b), implication(alloc, b, a))?;
+        return two_goals(alloc, f, g);
     }
     Ok(None)
 }
@@ -163,16 +181,30 @@ fn one_formula(alloc: Global, f: Formula) -> Result<Cases, NoMemory>
 fn either(alloc: Global, f: Formula, g: Formula) -> Result<Cases, NoMemory>
     ensures { IfOk result (λ o. option_map (λ v. v.items) o ≡ two_cases (f ∷ []) (g ∷ [])) }
 {
+    let (fs, gs) = each_alone(alloc, f, g)?;
+    two_cases(alloc, fs, gs)
+}
+
+fn each_alone<T: Drop>(alloc: Global, f: T, g: T) -> Result<(Items<T>, Items<T>), NoMemory>
+    ensures { IfOk result (λ p. (p.0 ≡ f ∷ []) × (p.1 ≡ g ∷ [])) }
+{
     let fs = Items::from_vec(only(alloc, f)?);
     let gs = Items::from_vec(only(alloc, g)?);
-    two_cases(alloc, fs, gs)
+    Ok((fs, gs))
 }
 
 fn one_goal(alloc: Global, f: Formula, goal: Formula) -> Result<GoalCases, NoMemory>
     ensures { IfOk result (λ o. option_map (λ v. v.items) o ≡ one_goal f goal) }
 {
-    let hyps = Items::from_vec(only(alloc, f)?);
-    Ok(Some(only(alloc, (hyps, goal))?))
+    let case = alone_and(alloc, f, goal)?;
+    Ok(Some(only(alloc, case)?))
+}
+
+fn alone_and<T: Drop>(alloc: Global, f: T, g: T) -> Result<(Items<T>, T), NoMemory>
+    ensures { IfOk result (λ p. (p.0 ≡ f ∷ []) × (p.1 ≡ g)) }
+{
+    let fs = Items::from_vec(only(alloc, f)?);
+    Ok((fs, g))
 }
 
 fn two_goals(alloc: Global, f: Formula, g: Formula) -> Result<GoalCases, NoMemory>
@@ -184,32 +216,28 @@ fn two_goals(alloc: Global, f: Formula, g: Formula) -> Result<GoalCases, NoMemor
 fn two_formulas(alloc: Global, a: &Formula, b: &Formula) -> Result<Items<Formula>, NoMemory>
     ensures { IfOk result (λ fs. fs ≡ a.now ∷ b.now ∷ []) }
 {
-    let a = a.copy(alloc)?;
-    let b = b.copy(alloc)?;
+    let (a, b) = both(a.copy(alloc), b.copy(alloc))?;
     Ok(Items::from_vec(two(alloc, a, b)?))
 }
 
 fn two_negations(alloc: Global, a: &Formula, b: &Formula) -> Result<Items<Formula>, NoMemory>
     ensures { IfOk result (λ fs. fs ≡ not_of a.now ∷ not_of b.now ∷ []) }
 {
-    let a = negation(alloc, a)?;
-    let b = negation(alloc, b)?;
+    let (a, b) = both(negation(alloc, a), negation(alloc, b))?;
     Ok(Items::from_vec(two(alloc, a, b)?))
 }
 
 fn formula_and_negation(alloc: Global, a: &Formula, b: &Formula) -> Result<Items<Formula>, NoMemory>
     ensures { IfOk result (λ fs. fs ≡ a.now ∷ not_of b.now ∷ []) }
 {
-    let a = a.copy(alloc)?;
-    let b = negation(alloc, b)?;
+    let (a, b) = both(a.copy(alloc), negation(alloc, b))?;
     Ok(Items::from_vec(two(alloc, a, b)?))
 }
 
 fn negation_and_formula(alloc: Global, a: &Formula, b: &Formula) -> Result<Items<Formula>, NoMemory>
     ensures { IfOk result (λ fs. fs ≡ not_of a.now ∷ b.now ∷ []) }
 {
-    let a = negation(alloc, a)?;
-    let b = b.copy(alloc)?;
+    let (a, b) = both(negation(alloc, a), b.copy(alloc))?;
     Ok(Items::from_vec(two(alloc, a, b)?))
 }
 

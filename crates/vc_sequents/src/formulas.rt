@@ -1,6 +1,6 @@
 //! The formulas that splitting makes of the parts of others.
 
-ghost use Rattle.std.specs.Prelude.{◌≡◌, IfOk};
+ghost use Rattle.std.specs.Prelude.{◌≡◌, IfOk, Ok};
 ghost use Rattle.vc_sequents.specs.Splitting.{and as and_of, implies as implies_of, less as less_of, less_eq as less_eq_of, not as not_of, or as or_of};
 
 use math_terms::{Boxed, Formula, NoMemory, Term, boxed};
@@ -20,9 +20,8 @@ pub(crate) fn negation(alloc: Global, a: &Formula) -> Result<Formula, NoMemory>
 pub(crate) fn not_both(alloc: Global, a: &Formula, b: &Formula) -> Result<Formula, NoMemory>
     ensures { IfOk result (λ f. f ≡ or_of (not_of a.now) (not_of b.now)) }
 {
-    let a = negation(alloc, a)?;
-    let b = negation(alloc, b)?;
-    let (a, b) = pair(alloc, a, b)?;
+    let a = boxed_negation(alloc, a)?;
+    let b = boxed_negation(alloc, b)?;
     Ok(Term::Or(a, b))
 }
 
@@ -30,9 +29,8 @@ pub(crate) fn not_both(alloc: Global, a: &Formula, b: &Formula) -> Result<Formul
 pub(crate) fn neither(alloc: Global, a: &Formula, b: &Formula) -> Result<Formula, NoMemory>
     ensures { IfOk result (λ f. f ≡ and_of (not_of a.now) (not_of b.now)) }
 {
-    let a = negation(alloc, a)?;
-    let b = negation(alloc, b)?;
-    let (a, b) = pair(alloc, a, b)?;
+    let a = boxed_negation(alloc, a)?;
+    let b = boxed_negation(alloc, b)?;
     Ok(Term::And(a, b))
 }
 
@@ -40,9 +38,8 @@ pub(crate) fn neither(alloc: Global, a: &Formula, b: &Formula) -> Result<Formula
 pub(crate) fn first_alone(alloc: Global, a: &Formula, b: &Formula) -> Result<Formula, NoMemory>
     ensures { IfOk result (λ f. f ≡ and_of a.now (not_of b.now)) }
 {
-    let a = a.copy(alloc)?;
-    let b = negation(alloc, b)?;
-    let (a, b) = pair(alloc, a, b)?;
+    let a = boxed_copy(alloc, a)?;
+    let b = boxed_negation(alloc, b)?;
     Ok(Term::And(a, b))
 }
 
@@ -73,15 +70,45 @@ pub(crate) fn less_eq(alloc: Global, a: &Term, b: &Term) -> Result<Formula, NoMe
 fn copies(alloc: Global, a: &Term, b: &Term) -> Result<Pair, NoMemory>
     ensures { IfOk result (λ p. (p.0 ≡ a.now) × (p.1 ≡ b.now)) }
 {
-    let a = a.copy(alloc)?;
-    let b = b.copy(alloc)?;
-    pair(alloc, a, b)
+    let a = boxed_copy(alloc, a)?;
+    let b = boxed_copy(alloc, b)?;
+    Ok((a, b))
 }
 
-fn pair(alloc: Global, a: Term, b: Term) -> Result<Pair, NoMemory>
-    ensures { IfOk result (λ p. (p.0 ≡ a) × (p.1 ≡ b)) }
+fn boxed_copy(alloc: Global, a: &Term) -> Result<Boxed<Term>, NoMemory>
+    ensures { IfOk result (λ b. b ≡ a.now) }
 {
-    let a = boxed(alloc, a)?;
-    let b = boxed(alloc, b)?;
-    Ok((a, b))
+    boxed(alloc, a.copy(alloc)?)
+}
+
+fn boxed_negation(alloc: Global, a: &Formula) -> Result<Boxed<Formula>, NoMemory>
+    ensures { IfOk result (λ b. b ≡ not_of a.now) }
+{
+    boxed(alloc, negation(alloc, a)?)
+}
+
+/// Both values, where memory sufficed for both.
+pub(crate) fn both<T: Drop, U: Drop>(
+    a: Result<T, NoMemory>,
+    b: Result<U, NoMemory>,
+) -> Result<(T, U), NoMemory>
+    ensures { IfOk result (λ p. (a ≡ Ok p.0) × (b ≡ Ok p.1)) }
+{
+    match a {
+        Ok(a) => match b {
+            Ok(b) => Ok((a, b)),
+            Err(e) => Err(e),
+        },
+        Err(e) => Err(e),
+    }
+}
+
+/// The first value and the second, where memory sufficed for the first.
+pub(crate) fn with<T: Drop, U: Drop>(a: Result<T, NoMemory>, b: U) -> Result<(T, U), NoMemory>
+    ensures { IfOk result (λ p. (a ≡ Ok p.0) × (p.1 ≡ b)) }
+{
+    match a {
+        Ok(a) => Ok((a, b)),
+        Err(e) => Err(e),
+    }
 }

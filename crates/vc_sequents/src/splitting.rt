@@ -8,6 +8,7 @@ ghost use Rattle.vc_sequents.specs.Laws.{AreLeaves, IsSplitRefusal};
 ghost use Rattle.vc_sequents.specs.Working.{IsStep, IsStepRefusal};
 
 use crate::cases::{goal_cases, hypothesis_cases};
+use crate::formulas::with;
 use crate::laws::splits_keep_validity;
 use crate::sequent::{Sequent, SplitError, copy_vars};
 use math_terms::{Desc, Formula, Name, NoMemory, Sort, copy_terms};
@@ -85,8 +86,10 @@ fn step(
     ensures ok { OnOk result (IsStep next todo.old.items done.old.items todo.new.items done.new.items) }
     ensures refused { IfErr result (IsStepRefusal next done.old.items) }
 {
-    match first_split(alloc, &next)? {
+    let (parts, next) = with(first_split(alloc, &next), next)?;
+    match parts {
         Some(parts) => {
+            drop(next);
             put_back(todo, parts)?;
             Ok(())
         }
@@ -95,7 +98,7 @@ fn step(
 }
 
 /// Adds a sequent to the leaves.
-fn add_leaf(done: &mut Vec<Sequent>, leaf: Sequent) -> Result<(), SplitError>
+fn add_leaf<T: Drop>(done: &mut Vec<T>, leaf: T) -> Result<(), SplitError>
     ensures ok { OnOk result (done.new.items ≡ done.old.items ++ leaf ∷ []) }
     ensures few { OnOk result (length done.new.items ≤ 64) }
     ensures refused { IfErr result (λ e. e ≡ SplitError.TooManyCases → 64 ≤ length done.old.items) }
@@ -230,12 +233,25 @@ fn with_goal_case(
     ensures { IfOk result (λ t. t ≡ with_goal_case s.now new) }
 {
     let (more, goal) = new;
-    let mut hyps = copy_terms(alloc, s.hyps.as_slice())?;
-    hyps.append(more)?;
+    let (hyps, goal) = with(with_more(alloc, s.hyps.as_slice(), more), goal)?;
+    let (vars, goal) = with(copy_vars(alloc, s.vars.as_slice()), goal)?;
     Ok(Sequent {
-        vars: copy_vars(alloc, s.vars.as_slice())?,
+        vars,
         params: s.params,
         hyps,
         goal,
     })
+}
+
+/// The hypotheses with more of them behind.
+fn with_more(
+    alloc: Global,
+    hyps: &[Formula],
+    more: Items<Formula>,
+) -> Result<Items<Formula>, NoMemory>
+    ensures { IfOk result (λ fs. fs ≡ hyps.now ++ more) }
+{
+    let mut out = copy_terms(alloc, hyps)?;
+    out.append(more)?;
+    Ok(out)
 }

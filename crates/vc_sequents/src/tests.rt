@@ -7,12 +7,13 @@ use std::test::Fail;
 
 /// A variable of type Integer.
 fn integer(alloc: Global, name: &[u8]) -> Result<(Name, Desc), NoMemory> {
+    let name = Name::new(alloc, name)?;
     let desc = Desc {
         shape: Shape::Z,
         constraint: Term::Truth(true),
         initial: Term::Truth(true),
     };
-    Ok((Name::new(alloc, name)?, desc))
+    Ok((name, desc))
 }
 
 /// Two Integer variables.
@@ -47,10 +48,15 @@ fn of_conjuncts(alloc: Global, conjuncts: u32) -> Result<Sequent, NoMemory> {
     Ok(sequent(vars, Items::new(alloc), goal))
 }
 
+/// The same, on the heap.
+fn conjuncts(alloc: Global, conjuncts: u32) -> Result<Boxed<Sequent>, NoMemory> {
+    Ok(Boxed::new(alloc, of_conjuncts(alloc, conjuncts)?)?)
+}
+
 /// A contradiction that is to be shown of one hypothesis.
-fn of_hypothesis(alloc: Global, hyps: Items<Formula>) -> Result<Sequent, NoMemory> {
+fn of_hypothesis(alloc: Global, hyps: Items<Formula>) -> Result<Boxed<Sequent>, NoMemory> {
     let vars = integers(alloc)?;
-    Ok(sequent(vars, hyps, Term::Truth(false)))
+    Ok(Boxed::new(alloc, sequent(vars, hyps, Term::Truth(false)))?)
 }
 
 /// `true and .. and true`
@@ -100,15 +106,15 @@ fn is_variable(t: &Term, number: u32) -> bool {
 
 #[test]
 fn a_goal_of_three_conjuncts_has_three_leaves(rt: HostRuntime) -> Result<(), Fail> {
-    let s = of_conjuncts(rt.alloc(), 3)?;
-    assert_eq!(rt; leaves(rt.alloc(), &s)?.len(), 3);
+    let s = conjuncts(rt.alloc(), 3)?;
+    assert_eq!(rt; leaves(rt.alloc(), s.get())?.len(), 3);
     Ok(())
 }
 
 #[test]
 fn sixty_five_conjuncts_are_too_many_cases(rt: HostRuntime) -> Result<(), Fail> {
-    let s = of_conjuncts(rt.alloc(), 65)?;
-    assert!(rt; matches!(leaves(rt.alloc(), &s), Err(SplitError::TooManyCases)));
+    let s = conjuncts(rt.alloc(), 65)?;
+    assert!(rt; matches!(leaves(rt.alloc(), s.get()), Err(SplitError::TooManyCases)));
     Ok(())
 }
 
@@ -116,7 +122,7 @@ fn sixty_five_conjuncts_are_too_many_cases(rt: HostRuntime) -> Result<(), Fail> 
 fn unequal_integers_are_in_one_order_or_the_other(rt: HostRuntime) -> Result<(), Fail> {
     let hyps = one(rt.alloc(), unequal(rt.alloc())?)?;
     let s = of_hypothesis(rt.alloc(), hyps)?;
-    let parts = split(rt.alloc(), &s)?.ok_or("nothing is split")?;
+    let parts = split(rt.alloc(), s.get())?.ok_or("nothing is split")?;
     assert_eq!(rt; parts.len(), 2);
     assert!(rt; has_order(&parts[0], 1, 2));
     assert!(rt; has_order(&parts[1], 2, 1));
@@ -127,7 +133,7 @@ fn unequal_integers_are_in_one_order_or_the_other(rt: HostRuntime) -> Result<(),
 fn a_true_hypothesis_is_dropped(rt: HostRuntime) -> Result<(), Fail> {
     let hyps = one(rt.alloc(), Term::Truth(true))?;
     let s = of_hypothesis(rt.alloc(), hyps)?;
-    let parts = split(rt.alloc(), &s)?.ok_or("nothing is split")?;
+    let parts = split(rt.alloc(), s.get())?.ok_or("nothing is split")?;
     assert_eq!(rt; parts.len(), 1);
     assert_eq!(rt; parts[0].hyps.len(), 0);
     Ok(())
@@ -136,7 +142,7 @@ fn a_true_hypothesis_is_dropped(rt: HostRuntime) -> Result<(), Fail> {
 #[test]
 fn nothing_is_split_of_a_false_goal(rt: HostRuntime) -> Result<(), Fail> {
     let s = of_hypothesis(rt.alloc(), Items::new(rt.alloc()))?;
-    assert!(rt; split(rt.alloc(), &s)?.is_none());
+    assert!(rt; split(rt.alloc(), s.get())?.is_none());
     Ok(())
 }
 
@@ -163,9 +169,9 @@ fn condition(alloc: Global) -> Result<Vc, NoMemory> {
 
 #[test]
 fn a_copy_of_a_condition_has_its_parts(rt: HostRuntime) -> Result<(), Fail> {
-    let vc = condition(rt.alloc())?;
-    let copied = vc.copy(rt.alloc())?;
-    assert_eq!(rt; copied.kind, VcKind::Ensures);
-    assert_eq!(rt; copied.sequent.vars.len(), 2);
+    let vc = Boxed::new(rt.alloc(), condition(rt.alloc())?)?;
+    let copied = Boxed::new(rt.alloc(), vc.get().copy(rt.alloc())?)?;
+    assert_eq!(rt; copied.get().kind, VcKind::Ensures);
+    assert_eq!(rt; copied.get().sequent.vars.len(), 2);
     Ok(())
 }
