@@ -1,5 +1,6 @@
 -- Plain terms have one value, whatever is initial and whatever the variables are.
 use Rattle.std.proofs.Common.{◌≡◌, ◌∙◌, sym, ap, refl, subst, ℕ, Bool, true, ◌&&◌, List, [], ◌∷◌, map}
+use Rattle.std.proofs.Math.Bool.{and-true, and_assoc}
 use Rattle.std.proofs.lemmas.Bool.{and_parts, false≢true}
 use Rattle.std.specs.List.{list_all}
 use Rattle.math_terms.specs.declared.term.Term.{Term}
@@ -11,7 +12,21 @@ use Rattle.math_terms.specs.Meaning.{Valuation, value_step, value_where}
 use Rattle.math_terms.specs.Descriptors.{nothing, zeros}
 use Rattle.math_terms.specs.Plain.{is_fixed, is_narrow, plain_step}
 use Rattle.math_terms.specs.Evaluating.{plain}
+use Rattle.math_terms.specs.Heads.{children}
 use Rattle.math_terms.proofs.Folds.{map-map}
+use Rattle.math_terms.proofs.SameTerms.{mapped_heads, same_heads}
+
+-- all children pass where all of their list do
+pub all_children : (x : Term-F Bool) → every_child x ≡ list_all (λ b. b) (children x)
+all_children (Term-F.Num n) = refl
+all_children (Term-F.Truth b) = refl
+all_children Term-F.MinInt = refl
+all_children Term-F.MaxInt = refl
+all_children (Term-F.Var k) = refl
+all_children Term-F.Empty = refl
+all_children (Term-F.Part i j a) = and_assoc i j a ∙ ap (λ b. i && (j && b)) (sym (and-true a))
+all_children (Term-F.Tuple parts) = refl
+all_children x = simp and-true refl
 
 module _ {Z : Type 0} (p : Z → Bool) (f g : Z → Val) (same_where : (z : Z) → p z ≡ true → f z ≡ g z) where
   lists_agree : (zs : List Z) → list_all (λ b. b) (map p zs) ≡ true → map f zs ≡ map g zs
@@ -20,91 +35,24 @@ module _ {Z : Type 0} (p : Z → Bool) (f g : Z → Val) (same_where : (z : Z) �
       let q = and_parts (p z) (list_all (λ b. b) (map p zs)) h in
       λ i. same_where z q.0 i ∷ lists_agree zs q.1 i
 
-  -- A fixed node has one value where its children have one.
-  nodes_agree : (starts : ℕ → Val → Bool) (w : Valuation) (x : Term-F Z) → is_fixed x ≡ true → every_child (map-Term Z Bool p x) ≡ true
-      → value_step starts w (map-Term Z Val f x) ≡ value_step nothing zeros (map-Term Z Val g x)
-  nodes_agree starts w (Term-F.Num n) h q = refl
-  nodes_agree starts w (Term-F.Truth b) h q = refl
-  nodes_agree starts w Term-F.MinInt h q = absurd (false≢true h)
-  nodes_agree starts w Term-F.MaxInt h q = absurd (false≢true h)
-  nodes_agree starts w (Term-F.Var k) h q = absurd (false≢true h)
-  nodes_agree starts w (Term-F.Add a b) h q =
-      let r = and_parts (p a) (p b) q in
-      λ i. value_step nothing zeros (Term-F.Add (same_where a r.0 i) (same_where b r.1 i))
-  nodes_agree starts w (Term-F.Sub a b) h q =
-      let r = and_parts (p a) (p b) q in
-      λ i. value_step nothing zeros (Term-F.Sub (same_where a r.0 i) (same_where b r.1 i))
-  nodes_agree starts w (Term-F.Mul a b) h q =
-      let r = and_parts (p a) (p b) q in
-      λ i. value_step nothing zeros (Term-F.Mul (same_where a r.0 i) (same_where b r.1 i))
-  nodes_agree starts w (Term-F.Div a b) h q =
-      let r = and_parts (p a) (p b) q in
-      λ i. value_step nothing zeros (Term-F.Div (same_where a r.0 i) (same_where b r.1 i))
-  nodes_agree starts w (Term-F.Mod a b) h q =
-      let r = and_parts (p a) (p b) q in
-      λ i. value_step nothing zeros (Term-F.Mod (same_where a r.0 i) (same_where b r.1 i))
-  nodes_agree starts w (Term-F.Len a) h q = λ i. value_step nothing zeros (Term-F.Len (same_where a q i))
-  nodes_agree starts w Term-F.Empty h q = refl
-  nodes_agree starts w (Term-F.Single a) h q = λ i. value_step nothing zeros (Term-F.Single (same_where a q i))
-  nodes_agree starts w (Term-F.Cat a b) h q =
-      let r = and_parts (p a) (p b) q in
-      λ i. value_step nothing zeros (Term-F.Cat (same_where a r.0 i) (same_where b r.1 i))
-  nodes_agree starts w (Term-F.Reverse a) h q = λ i. value_step nothing zeros (Term-F.Reverse (same_where a q i))
-  nodes_agree starts w (Term-F.Part i j a) h q =
-      let r = and_parts (p i && p j) (p a) q in
-      let s = and_parts (p i) (p j) r.0 in
-      λ d. value_step nothing zeros (Term-F.Part (same_where i s.0 d) (same_where j s.1 d) (same_where a r.1 d))
-  nodes_agree starts w (Term-F.Tuple parts) h q = λ i. value_step nothing zeros (Term-F.Tuple (lists_agree parts q i))
-  nodes_agree starts w (Term-F.Proj k a) h q = λ i. value_step nothing zeros (Term-F.Proj k (same_where a q i))
-  nodes_agree starts w (Term-F.Eq a b) h q =
-      let r = and_parts (p a) (p b) q in
-      λ i. value_step nothing zeros (Term-F.Eq (same_where a r.0 i) (same_where b r.1 i))
-  nodes_agree starts w (Term-F.Less a b) h q =
-      let r = and_parts (p a) (p b) q in
-      λ i. value_step nothing zeros (Term-F.Less (same_where a r.0 i) (same_where b r.1 i))
-  nodes_agree starts w (Term-F.LessEq a b) h q =
-      let r = and_parts (p a) (p b) q in
-      λ i. value_step nothing zeros (Term-F.LessEq (same_where a r.0 i) (same_where b r.1 i))
-  nodes_agree starts w (Term-F.Not a) h q = λ i. value_step nothing zeros (Term-F.Not (same_where a q i))
-  nodes_agree starts w (Term-F.And a b) h q =
-      let r = and_parts (p a) (p b) q in
-      λ i. value_step nothing zeros (Term-F.And (same_where a r.0 i) (same_where b r.1 i))
-  nodes_agree starts w (Term-F.Or a b) h q =
-      let r = and_parts (p a) (p b) q in
-      λ i. value_step nothing zeros (Term-F.Or (same_where a r.0 i) (same_where b r.1 i))
-  nodes_agree starts w (Term-F.Implies a b) h q =
-      let r = and_parts (p a) (p b) q in
-      λ i. value_step nothing zeros (Term-F.Implies (same_where a r.0 i) (same_where b r.1 i))
-  nodes_agree starts w (Term-F.Initial k a) h q = absurd (false≢true h)
+  -- A node maps to one node where its children do.
+  pub nodes_agree : (x : Term-F Z) → every_child (map-Term Z Bool p x) ≡ true → map-Term Z Val f x ≡ map-Term Z Val g x
+  nodes_agree x h =
+      let m = mapped_heads f x in
+      let n = mapped_heads g x in
+      same_heads (map-Term Z Val f x) (map-Term Z Val g x) (m.0 ∙ sym n.0) (m.1 ∙ sym n.1)
+      (m.2 ∙ lists_agree (children x) (ap (list_all (λ b. b)) (sym (mapped_heads p x).2) ∙ sym (all_children (map-Term Z Bool p x)) ∙ h) ∙ sym n.2)
+
+-- the value of a fixed node depends on nothing else
+fixed_value : (starts : ℕ → Val → Bool) (w : Valuation) (x : Term-F Val) → is_fixed x ≡ true → value_step starts w x ≡ value_step nothing zeros x
+fixed_value starts w (Term-F.Var k) h = absurd (false≢true h)
+fixed_value starts w (Term-F.Initial k a) h = absurd (false≢true h)
+fixed_value starts w x h = refl
 
 -- whether a node is fixed does not depend on the children
 fixed_maps : {X Y : Type 0} (f : X → Y) (x : Term-F X) → is_fixed (map-Term X Y f x) ≡ is_fixed x
 fixed_maps f (Term-F.Num n) = refl
-fixed_maps f (Term-F.Truth b) = refl
-fixed_maps f Term-F.MinInt = refl
-fixed_maps f Term-F.MaxInt = refl
-fixed_maps f (Term-F.Var k) = refl
-fixed_maps f (Term-F.Add a b) = refl
-fixed_maps f (Term-F.Sub a b) = refl
-fixed_maps f (Term-F.Mul a b) = refl
-fixed_maps f (Term-F.Div a b) = refl
-fixed_maps f (Term-F.Mod a b) = refl
-fixed_maps f (Term-F.Len a) = refl
-fixed_maps f Term-F.Empty = refl
-fixed_maps f (Term-F.Single a) = refl
-fixed_maps f (Term-F.Cat a b) = refl
-fixed_maps f (Term-F.Reverse a) = refl
-fixed_maps f (Term-F.Part i j a) = refl
-fixed_maps f (Term-F.Tuple parts) = refl
-fixed_maps f (Term-F.Proj k a) = refl
-fixed_maps f (Term-F.Eq a b) = refl
-fixed_maps f (Term-F.Less a b) = refl
-fixed_maps f (Term-F.LessEq a b) = refl
-fixed_maps f (Term-F.Not a) = refl
-fixed_maps f (Term-F.And a b) = refl
-fixed_maps f (Term-F.Or a b) = refl
-fixed_maps f (Term-F.Implies a b) = refl
-fixed_maps f (Term-F.Initial k a) = refl
+fixed_maps f x = refl
 
 module _ (starts : ℕ → Val → Bool) (w : Valuation) where
   HasValue : Term → Type 0
@@ -124,11 +72,9 @@ module _ (starts : ℕ → Val → Bool) (w : Valuation) where
       let values = map-map plain (λ (k : Val × Bool). k.0) x ∙ map-map (λ (e : E). e.0) (λ (t : Term). (plain t).0) y in
       let q = and_parts (is_fixed kids && every_child (map-Term (Val × Bool) Bool (λ k. k.1) kids)) (is_narrow (plain_step kids).0) h in
       let r = and_parts (is_fixed kids) (every_child (map-Term (Val × Bool) Bool (λ k. k.1) kids)) q.0 in
-      ap (value_step starts w) (map-map (λ (e : E). e.0) (value_where starts w) y)
-      ∙ nodes_agree (λ (e : E). (plain e.0).1) (λ e. value_where starts w e.0) (λ e. (plain e.0).0) (λ e. e.1) starts w y
-      (sym (fixed_maps (λ (e : E). e.0) y) ∙ sym (fixed_maps plain x) ∙ r.0)
-      (subst (λ z. every_child z ≡ true) passes r.1)
-      ∙ ap (value_step nothing zeros) (sym values)
+      let agree = nodes_agree (λ (e : E). (plain e.0).1) (λ e. value_where starts w e.0) (λ e. (plain e.0).0) (λ e. e.1) y (subst (λ z. every_child z ≡ true) passes r.1) in
+      ap (value_step starts w) (map-map (λ (e : E). e.0) (value_where starts w) y ∙ agree ∙ sym values)
+      ∙ fixed_value starts w (map-Term (Val × Bool) Val (λ k. k.0) kids) (fixed_maps (λ (k : Val × Bool). k.0) kids ∙ r.0)
 
   -- A plain term has the value that it is evaluated to.
   pub value_of_plain : (t : Term) → (plain t).1 ≡ true → value_where starts w t ≡ (plain t).0

@@ -8,8 +8,6 @@ use Rattle.math_terms.specs.declared.view.Unary.{Unary}
 use Rattle.math_terms.specs.declared.name.NoMemory.{NoMemory}
 use Rattle.math_terms.specs.declared.term.Term.{Term}
 use Rattle.math_terms.specs.declared.term.Term.TheOpen.{Term-F}
-use Rattle.math_terms.specs.declared.term.Term.TheViews.{roll-Term}
-use Rattle.math_terms.specs.declared.term.Term.TheFolds.{map-Term, fold-roll-Term}
 use Rattle.math_terms.specs.declared.value.Value.{Value}
 use Rattle.math_terms.specs.declared.value.Value.TheOpen.{Value-F}
 use Rattle.math_terms.specs.declared.value.Value.TheVariants.{Num as CodeNum, Truth as CodeTruth, Str, Tup, rolls-Num, rolls-Truth, rolls-Str, rolls-Tup}
@@ -76,17 +74,7 @@ binary_plain : (op : Binary) (p q : Val × Bool) →
     plain_step (binary_node op p q) ≡ (binary_value op p.0 q.0, (p.1 && q.1) && is_narrow (binary_value op p.0 q.0))
 unfolding binary_value
 binary_plain Binary.Add p q = refl
-binary_plain Binary.Sub p q = refl
-binary_plain Binary.Mul p q = refl
-binary_plain Binary.Div p q = refl
-binary_plain Binary.Mod p q = refl
-binary_plain Binary.Cat p q = refl
-binary_plain Binary.Eq p q = refl
-binary_plain Binary.Less p q = refl
-binary_plain Binary.LessEq p q = refl
-binary_plain Binary.And p q = refl
-binary_plain Binary.Or p q = refl
-binary_plain Binary.Implies p q = refl
+binary_plain op p q = refl
 
 pub binary_none_left : (op : Binary) (p q : Val × Bool) → p.1 ≡ false → (plain_step (binary_node op p q)).1 ≡ false
 binary_none_left op p q h =
@@ -115,9 +103,7 @@ unary_value op u = value_step nothing zeros (unary_node op u)
 unary_plain : (op : Unary) (p : Val × Bool) → plain_step (unary_node op p) ≡ (unary_value op p.0, p.1 && is_narrow (unary_value op p.0))
 unfolding unary_value
 unary_plain Unary.Len p = refl
-unary_plain Unary.Single p = refl
-unary_plain Unary.Reverse p = refl
-unary_plain Unary.Not p = refl
+unary_plain op p = refl
 
 pub unary_none : (op : Unary) (p : Val × Bool) → p.1 ≡ false → (plain_step (unary_node op p)).1 ≡ false
 unary_none op p h = ap (λ (k : Val × Bool). k.1) (unary_plain op p) ∙ ap (λ b. b && is_narrow (unary_value op p.0)) h
@@ -132,11 +118,9 @@ unary_some op p u r e h =
     unary_plain op p ∙ (λ i. (unary_value op (sym e.1 i), e.0 i && is_narrow (unary_value op (sym e.1 i)))) in
     subst (λ (k : Val × Bool). IsEvaluation k r) (sym same_pair) h
 
--- An answer for one layer of a term is one for the term.
-pub at_node : (x : Term-F Term) (t : Term) (r : Result (Option Value) NoMemory) → t ≡ roll-Term x →
-    IsEvaluation (plain_step (map-Term Term (Val × Bool) plain x)) r → IsEvaluation (plain t) r
-at_node x t r is h =
-    subst (λ (k : Val × Bool). IsEvaluation k r) (sym (ap plain is ∙ fold-roll-Term (Val × Bool) plain_step x)) h
+-- an answer for a term with this value
+pub evaluated_at : (t : Term) (p : Val × Bool) (r : Result (Option Value) NoMemory) → plain t ≡ p → IsEvaluation p r → IsEvaluation (plain t) r
+evaluated_at t p r e h = subst (λ (k : Val × Bool). IsEvaluation k r) (sym e) h
 
 -- what is answered for an equation
 pub equation_answer : (op : Binary) (u v : Value) (b : Bool) → op ≡ Binary.Eq → (b ≡ true) ↔ (u ≡ v) →

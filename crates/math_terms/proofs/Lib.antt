@@ -11,3 +11,6 @@ pub mod Heads
 pub mod Walks
 pub mod SortsToKinds
 pub mod Clashes
+mod WellSorted
+mod WellValued
+mod Mentioned

@@ -72,62 +72,14 @@ truth_remade false = refl
 
 -- a node is told by its form, its own number and its children
 node_remade : {A : Type 0} (x : Term-F A) → remade (form x) (own x) (children x) ≡ Some x
-node_remade (Term-F.Num n) = refl
 node_remade (Term-F.Truth b) = truth_remade b
-node_remade Term-F.MinInt = refl
-node_remade Term-F.MaxInt = refl
-node_remade (Term-F.Var k) = refl
-node_remade (Term-F.Add a b) = refl
-node_remade (Term-F.Sub a b) = refl
-node_remade (Term-F.Mul a b) = refl
-node_remade (Term-F.Div a b) = refl
-node_remade (Term-F.Mod a b) = refl
-node_remade (Term-F.Len a) = refl
-node_remade Term-F.Empty = refl
-node_remade (Term-F.Single a) = refl
-node_remade (Term-F.Cat a b) = refl
-node_remade (Term-F.Reverse a) = refl
-node_remade (Term-F.Part i j a) = refl
-node_remade (Term-F.Tuple parts) = refl
-node_remade (Term-F.Proj k a) = refl
-node_remade (Term-F.Eq a b) = refl
-node_remade (Term-F.Less a b) = refl
-node_remade (Term-F.LessEq a b) = refl
-node_remade (Term-F.Not a) = refl
-node_remade (Term-F.And a b) = refl
-node_remade (Term-F.Or a b) = refl
-node_remade (Term-F.Implies a b) = refl
-node_remade (Term-F.Initial k a) = refl
+node_remade x = refl
 
 -- a node whose children are mapped has the same form and the same number of its own
-mapped_heads : {A B : Type 0} (f : A → B) (x : Term-F A) →
+pub mapped_heads : {A B : Type 0} (f : A → B) (x : Term-F A) →
     (form (map-Term A B f x) ≡ form x) × (own (map-Term A B f x) ≡ own x) × (children (map-Term A B f x) ≡ map f (children x))
 mapped_heads f (Term-F.Num n) = (refl, refl, refl)
-mapped_heads f (Term-F.Truth b) = (refl, refl, refl)
-mapped_heads f Term-F.MinInt = (refl, refl, refl)
-mapped_heads f Term-F.MaxInt = (refl, refl, refl)
-mapped_heads f (Term-F.Var k) = (refl, refl, refl)
-mapped_heads f (Term-F.Add a b) = (refl, refl, refl)
-mapped_heads f (Term-F.Sub a b) = (refl, refl, refl)
-mapped_heads f (Term-F.Mul a b) = (refl, refl, refl)
-mapped_heads f (Term-F.Div a b) = (refl, refl, refl)
-mapped_heads f (Term-F.Mod a b) = (refl, refl, refl)
-mapped_heads f (Term-F.Len a) = (refl, refl, refl)
-mapped_heads f Term-F.Empty = (refl, refl, refl)
-mapped_heads f (Term-F.Single a) = (refl, refl, refl)
-mapped_heads f (Term-F.Cat a b) = (refl, refl, refl)
-mapped_heads f (Term-F.Reverse a) = (refl, refl, refl)
-mapped_heads f (Term-F.Part i j a) = (refl, refl, refl)
-mapped_heads f (Term-F.Tuple parts) = (refl, refl, refl)
-mapped_heads f (Term-F.Proj k a) = (refl, refl, refl)
-mapped_heads f (Term-F.Eq a b) = (refl, refl, refl)
-mapped_heads f (Term-F.Less a b) = (refl, refl, refl)
-mapped_heads f (Term-F.LessEq a b) = (refl, refl, refl)
-mapped_heads f (Term-F.Not a) = (refl, refl, refl)
-mapped_heads f (Term-F.And a b) = (refl, refl, refl)
-mapped_heads f (Term-F.Or a b) = (refl, refl, refl)
-mapped_heads f (Term-F.Implies a b) = (refl, refl, refl)
-mapped_heads f (Term-F.Initial k a) = (refl, refl, refl)
+mapped_heads f x = (refl, refl, refl)
 
 Decided : Term → Type 0
 Decided t = (u : Term) → (same_term t u ≡ true) ↔ (t ≡ u)
@@ -153,7 +105,8 @@ unfolding Decided
 pairs_same [] = refl
 pairs_same (y ∷ ys) = and_from (same_term y.0 y.0) (pairwise (map same_term (bare ys)) (bare ys)) ((y.1 y.0).1 refl) (pairs_same ys)
 
-same_heads : (x v : Term-F Term) → form x ≡ form v → own x ≡ own v → children x ≡ children v → x ≡ v
+-- nodes are the same where these three are
+pub same_heads : {A : Type 0} (x v : Term-F A) → form x ≡ form v → own x ≡ own v → children x ≡ children v → x ≡ v
 same_heads x v e f g =
     let all : Some x ≡ Some v = sym (node_remade x) ∙ (λ i. remade (e i) (f i) (g i)) ∙ node_remade v in
     cc

@@ -16,11 +16,11 @@ use Rattle.math_terms.specs.declared.term.Term.TheFolds.{map-Term, fold-roll-Ter
 use Rattle.math_terms.specs.Values.{Val, Num, Truth, Str, Tup, list_of, is_number, is_truth, is_string, truth, entries, tuple, projected}
 use Rattle.math_terms.specs.Meaning.{Valuation, set_to, value_step, value_where}
 use Rattle.math_terms.specs.Descriptors.{Interpretation, each_in, shape_step, member_step, member_where, lies_in, starts_in, member, value}
-use Rattle.math_terms.specs.Sorts.{any, part_form, sort_of_var}
+use Rattle.math_terms.specs.Sorts.{any, part_form, sort_of_var, str_form}
 use Rattle.math_terms.specs.Kinds.{or_any, forget, forget_step, forget_option, kind, kind_step, sort_of_desc, sort_of_desc_step, sort_of_shape, sort_of_shape_step}
 use Rattle.math_terms.specs.Validity.{lies_from}
 use Rattle.math_terms.proofs.Sameness.{list_of-vals_of}
-use Rattle.math_terms.specs.Laws.{ValuesHaveKinds}
+use Rattle.math_terms.specs.Laws.{StringsHaveKinds, ValuesHaveKinds}
 
 -- whether a value has the form that a kind asks for; what a string holds is not asked
 abbrev shaped_step : Sort-F (Val → Bool) → Val → Bool
@@ -215,3 +215,13 @@ values_have_kinds params I good w descs lies t =
       λ e. sym (shaped_roll Sort-F.Z (value I w t)) ∙ ap (λ s. shaped s (value I w t)) (sym e) ∙ h,
       λ e. sym (shaped_roll Sort-F.B (value I w t)) ∙ ap (λ s. shaped s (value I w t)) (sym e) ∙ h,
     )
+
+string_form : (x : Sort-F Sort) (v : Val) → str_form x ≡ true → shaped_step (map-Sort Sort (Val → Bool) shaped x) v ≡ true → is_string v ≡ true
+string_form (Sort-F.Str s) v h e = e
+string_form x v h e = cc
+
+pub strings_have_kinds : StringsHaveKinds
+strings_have_kinds params I good w descs lies t e =
+    let vars : List Sort = map sort_of_desc descs in
+    let h : shaped (kind vars t) (value I w t) ≡ true = value_shaped (starts_in I) w vars (variables_shaped I w descs lies) t in
+    string_form (out-Sort (kind vars t)) (value I w t) e (sym (shaped_out (kind vars t) (value I w t)) ∙ h)

@@ -12,7 +12,7 @@ use Rattle.math_terms.specs.Kinds.{forget, forget_step, forget_option, kind, kin
 use Rattle.math_terms.specs.Laws.{SortsHaveKinds}
 use Rattle.math_terms.proofs.Meets.{meet_roll, with_meets}
 
-forget_roll : (x : Sort-F Sort) → forget (roll-Sort x) ≡ forget_step (map-Sort Sort Sort forget x)
+pub forget_roll : (x : Sort-F Sort) → forget (roll-Sort x) ≡ forget_step (map-Sort Sort Sort forget x)
 forget_roll x = fold-roll-Sort Sort forget_step x
 
 forget_z : (s : Sort) → z ≡ s → z ≡ forget s

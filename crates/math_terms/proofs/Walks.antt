@@ -20,51 +20,25 @@ use Rattle.math_terms.specs.declared.view.Binary.{Binary}
 use Rattle.math_terms.specs.declared.view.Unary.{Unary}
 use Rattle.math_terms.specs.declared.term.Term.TheViews.{roll-Term}
 use Rattle.math_terms.specs.Walking.{IsClash, IsWalk, IsWalkOfAll, numbered}
+use Rattle.math_terms.specs.Heads.{children}
 use Rattle.math_terms.proofs.Folds.{fold_fusion}
-use Rattle.math_terms.proofs.Heads.{fold_at, fold_at_one, fold_at_two, nodes_at_one, nodes_at_two}
+use Rattle.math_terms.proofs.Heads.{fold_at, fold_at_one, fold_at_two, nodes_at_one, nodes_at_two, nodes_of_node}
+use Rattle.math_terms.proofs.SameTerms.{mapped_heads}
 use Rattle.math_terms.proofs.Meets.{push_onto}
 
 -- how many nodes are in order
-one_long : (xs : List (Option Sort)) (s : Option Sort) → length ((xs ++ []) ++ (s ∷ [])) ≡ 1 + length xs
-one_long xs s = simp length-append (omega arith)
-
-two_long : (xs ys : List (Option Sort)) (s : Option Sort) → length ((xs ++ (ys ++ [])) ++ (s ∷ [])) ≡ 1 + length xs + length ys
-two_long xs ys s = simp length-append (omega arith)
-
-three_long : (xs ys zs : List (Option Sort)) (s : Option Sort) → length ((xs ++ (ys ++ (zs ++ []))) ++ (s ∷ [])) ≡ 1 + length xs + length ys + length zs
-three_long xs ys zs s = simp length-append (omega arith)
-
-many_long : (ps : List Sorting) (s : Option Sort) → length (orders ps ++ (s ∷ [])) ≡ 1 + sum (map (λ (p : Sorting). length p.1) ps)
-many_long ps s =
-    omega (arith, length-append (orders ps) (s ∷ []), length-flat_map (λ (p : Sorting). p.1) ps, sum-map (λ (p : Sorting). length p.1) ps)
-
 order_long_step : (vars : List Sort) (x : Term-F Sorting) → length (sorting_step vars x).1 ≡ nodes_step (map-Term Sorting ℕ (λ p. length p.1) x)
-order_long_step vars (Term-F.Num n) = refl
-order_long_step vars (Term-F.Truth b) = refl
-order_long_step vars Term-F.MinInt = refl
-order_long_step vars Term-F.MaxInt = refl
-order_long_step vars (Term-F.Var k) = refl
-order_long_step vars (Term-F.Add a b) = two_long a.1 b.1 (sort_step vars (map-Term Sorting (Option Sort) (λ p. p.0) (Term-F.Add a b)))
-order_long_step vars (Term-F.Sub a b) = two_long a.1 b.1 (sort_step vars (map-Term Sorting (Option Sort) (λ p. p.0) (Term-F.Sub a b)))
-order_long_step vars (Term-F.Mul a b) = two_long a.1 b.1 (sort_step vars (map-Term Sorting (Option Sort) (λ p. p.0) (Term-F.Mul a b)))
-order_long_step vars (Term-F.Div a b) = two_long a.1 b.1 (sort_step vars (map-Term Sorting (Option Sort) (λ p. p.0) (Term-F.Div a b)))
-order_long_step vars (Term-F.Mod a b) = two_long a.1 b.1 (sort_step vars (map-Term Sorting (Option Sort) (λ p. p.0) (Term-F.Mod a b)))
-order_long_step vars (Term-F.Len a) = one_long a.1 (sort_step vars (map-Term Sorting (Option Sort) (λ p. p.0) (Term-F.Len a)))
-order_long_step vars Term-F.Empty = refl
-order_long_step vars (Term-F.Single a) = one_long a.1 (sort_step vars (map-Term Sorting (Option Sort) (λ p. p.0) (Term-F.Single a)))
-order_long_step vars (Term-F.Cat a b) = two_long a.1 b.1 (sort_step vars (map-Term Sorting (Option Sort) (λ p. p.0) (Term-F.Cat a b)))
-order_long_step vars (Term-F.Reverse a) = one_long a.1 (sort_step vars (map-Term Sorting (Option Sort) (λ p. p.0) (Term-F.Reverse a)))
-order_long_step vars (Term-F.Part i j a) = three_long i.1 j.1 a.1 (sort_step vars (map-Term Sorting (Option Sort) (λ p. p.0) (Term-F.Part i j a)))
-order_long_step vars (Term-F.Tuple parts) = many_long parts (sort_step vars (map-Term Sorting (Option Sort) (λ p. p.0) (Term-F.Tuple parts)))
-order_long_step vars (Term-F.Proj k a) = one_long a.1 (sort_step vars (map-Term Sorting (Option Sort) (λ p. p.0) (Term-F.Proj k a)))
-order_long_step vars (Term-F.Eq a b) = two_long a.1 b.1 (sort_step vars (map-Term Sorting (Option Sort) (λ p. p.0) (Term-F.Eq a b)))
-order_long_step vars (Term-F.Less a b) = two_long a.1 b.1 (sort_step vars (map-Term Sorting (Option Sort) (λ p. p.0) (Term-F.Less a b)))
-order_long_step vars (Term-F.LessEq a b) = two_long a.1 b.1 (sort_step vars (map-Term Sorting (Option Sort) (λ p. p.0) (Term-F.LessEq a b)))
-order_long_step vars (Term-F.Not a) = one_long a.1 (sort_step vars (map-Term Sorting (Option Sort) (λ p. p.0) (Term-F.Not a)))
-order_long_step vars (Term-F.And a b) = two_long a.1 b.1 (sort_step vars (map-Term Sorting (Option Sort) (λ p. p.0) (Term-F.And a b)))
-order_long_step vars (Term-F.Or a b) = two_long a.1 b.1 (sort_step vars (map-Term Sorting (Option Sort) (λ p. p.0) (Term-F.Or a b)))
-order_long_step vars (Term-F.Implies a b) = two_long a.1 b.1 (sort_step vars (map-Term Sorting (Option Sort) (λ p. p.0) (Term-F.Implies a b)))
-order_long_step vars (Term-F.Initial k a) = one_long a.1 (sort_step vars (map-Term Sorting (Option Sort) (λ p. p.0) (Term-F.Initial k a)))
+order_long_step vars x =
+    let ps = children x in
+    let long : Sorting → ℕ = λ p. length p.1 in
+    omega (
+      arith,
+      length-append (orders ps) ((sorting_step vars x).0 ∷ []),
+      length-flat_map (λ (p : Sorting). p.1) ps,
+      sum-map long ps,
+      ap sum (mapped_heads long x).2,
+      nodes_of_node (map-Term Sorting ℕ long x),
+    )
 
 pub order_long : (vars : List Sort) (t : Term) → length (sorting vars t).1 ≡ nodes t
 order_long vars = fold_fusion (sorting_step vars) nodes_step (λ p. length p.1) (order_long_step vars)
@@ -159,23 +133,11 @@ no_memory start n p r is = IsWalk-err start n p r NoMemory is tt
 -- the nodes with one child and with two
 pub over_one : (vars : List Sort) (op : Unary) (p : Sorting) → over (sort_step vars (unary_node op p.0)) (p ∷ []) ≡ sorting_step vars (unary_node op p)
 over_one vars Unary.Len p = refl
-over_one vars Unary.Single p = refl
-over_one vars Unary.Reverse p = refl
-over_one vars Unary.Not p = refl
+over_one vars op p = refl
 
 pub over_two : (vars : List Sort) (op : Binary) (p q : Sorting) → over (sort_step vars (binary_node op p.0 q.0)) (p ∷ q ∷ []) ≡ sorting_step vars (binary_node op p q)
 over_two vars Binary.Add p q = refl
-over_two vars Binary.Sub p q = refl
-over_two vars Binary.Mul p q = refl
-over_two vars Binary.Div p q = refl
-over_two vars Binary.Mod p q = refl
-over_two vars Binary.Cat p q = refl
-over_two vars Binary.Eq p q = refl
-over_two vars Binary.Less p q = refl
-over_two vars Binary.LessEq p q = refl
-over_two vars Binary.And p q = refl
-over_two vars Binary.Or p q = refl
-over_two vars Binary.Implies p q = refl
+over_two vars op p q = refl
 
 -- an answer for one layer of a term is one for the term
 pub at_head : (vars : List Sort) (start : ℕ) (x : Term-F Term) (t : Term) (r : Result Sorted TermError) → t ≡ roll-Term x →

@@ -1,13 +1,17 @@
 pub mod Values
 pub mod Terms
 pub mod Meaning
+pub mod Mentions
 pub mod Descriptors
 pub mod Validity
 pub mod Plain
+pub mod Positions
 pub mod Laws
 pub mod Evaluating
+pub mod Forms
 pub mod Heads
 pub mod Sorts
 pub mod Kinds
+pub mod Kinding
 pub mod Views
 pub mod Walking

@@ -10,7 +10,7 @@ use Rattle.math_terms.specs.declared.name.TermError.TheVariants.{TooLarge, SortC
 use Rattle.math_terms.specs.declared.term.Term.{Term}
 use Rattle.math_terms.specs.declared.term.Term.TheOpen.{Term-F}
 use Rattle.math_terms.specs.declared.term.Term.TheFolds.{fold-Term, map-Term}
-use Rattle.math_terms.specs.Terms.{children}
+use Rattle.math_terms.specs.Heads.{children}
 
 abbrev pub z : Sort
 z = roll-Sort Sort-F.Z

@@ -1,5 +1,5 @@
 -- Terms as trees: their size, and substitution.
-use Rattle.std.specs.Prelude.{ℕ, ◌+◌, ◌==◌, ◌<◌, min, Bool, true, ◌&&◌, List, [], ◌∷◌, sum, if◌then◌else◌}
+use Rattle.std.specs.Prelude.{ℕ, ◌+◌, ◌==◌, ◌<◌, min, Bool, true, ◌&&◌, sum, if◌then◌else◌}
 use Rattle.std.specs.List.{list_all}
 use Rattle.math_terms.specs.declared.name.TermError.{TermError}
 use Rattle.math_terms.specs.declared.name.TermError.TheVariants.{TooLarge, SortClash, NoMemory}
@@ -95,18 +95,12 @@ IsSizeRefusal NoMemory n = Unit {0}
 
 -- whether all children pass
 abbrev pub every_child : Term-F Bool → Bool
-every_child (Term-F.Num n) = true
-every_child (Term-F.Truth b) = true
-every_child Term-F.MinInt = true
-every_child Term-F.MaxInt = true
-every_child (Term-F.Var k) = true
 every_child (Term-F.Add a b) = a && b
 every_child (Term-F.Sub a b) = a && b
 every_child (Term-F.Mul a b) = a && b
 every_child (Term-F.Div a b) = a && b
 every_child (Term-F.Mod a b) = a && b
 every_child (Term-F.Len a) = a
-every_child Term-F.Empty = true
 every_child (Term-F.Single a) = a
 every_child (Term-F.Cat a b) = a && b
 every_child (Term-F.Reverse a) = a
@@ -121,32 +115,4 @@ every_child (Term-F.And a b) = a && b
 every_child (Term-F.Or a b) = a && b
 every_child (Term-F.Implies a b) = a && b
 every_child (Term-F.Initial k a) = a
-
--- the children of a node from the left
-abbrev pub children : {A : Type 0} → Term-F A → List A
-children (Term-F.Num n) = []
-children (Term-F.Truth b) = []
-children Term-F.MinInt = []
-children Term-F.MaxInt = []
-children (Term-F.Var k) = []
-children (Term-F.Add a b) = a ∷ b ∷ []
-children (Term-F.Sub a b) = a ∷ b ∷ []
-children (Term-F.Mul a b) = a ∷ b ∷ []
-children (Term-F.Div a b) = a ∷ b ∷ []
-children (Term-F.Mod a b) = a ∷ b ∷ []
-children (Term-F.Len a) = a ∷ []
-children Term-F.Empty = []
-children (Term-F.Single a) = a ∷ []
-children (Term-F.Cat a b) = a ∷ b ∷ []
-children (Term-F.Reverse a) = a ∷ []
-children (Term-F.Part i j a) = i ∷ j ∷ a ∷ []
-children (Term-F.Tuple parts) = parts
-children (Term-F.Proj k a) = a ∷ []
-children (Term-F.Eq a b) = a ∷ b ∷ []
-children (Term-F.Less a b) = a ∷ b ∷ []
-children (Term-F.LessEq a b) = a ∷ b ∷ []
-children (Term-F.Not a) = a ∷ []
-children (Term-F.And a b) = a ∷ b ∷ []
-children (Term-F.Or a b) = a ∷ b ∷ []
-children (Term-F.Implies a b) = a ∷ b ∷ []
-children (Term-F.Initial k a) = a ∷ []
+every_child x = true

@@ -5,7 +5,8 @@ ghost use Rattle.math_terms.specs.Kinds.{forget, sort_of_desc, sort_of_shape};
 ghost use Rattle.math_terms.specs.Sorts.{any, b, is_b, is_str, is_z, str, z};
 
 use crate::name::NoMemory;
-use crate::term::{Term, both};
+use crate::term::Term;
+use crate::together::both;
 use sqlite_items::{Boxed, Items};
 use std::alloc::Global;
 

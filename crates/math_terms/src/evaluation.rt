@@ -1,6 +1,6 @@
 //! The truth of closed formulas, by evaluation.
 
-ghost use Rattle.std.specs.Prelude.{◌≡◌, IfOk, MatchOption, Bool, true, false, ℤ, map, FitsSigned};
+ghost use Rattle.std.specs.Prelude.{◌≡◌, ◌≢◌, IfOk, Ok, MatchOption, Bool, true, false, ℤ, map, FitsSigned};
 ghost use Rattle.std.specs.Int.{w128};
 ghost use Rattle.std.specs.Option.{SomeIff};
 ghost use Rattle.math_terms.specs.Values.{Val, Num, denotes};
@@ -18,8 +18,8 @@ use crate::operations::{
 };
 use crate::term::{Formula, Term};
 use crate::value::Value;
-use crate::view::{Binary, Unary};
-use sqlite_items::{Boxed, Items};
+use crate::view::{Binary, Unary, View};
+use sqlite_items::Items;
 use std::alloc::Global;
 
 /// The value of a term, or none where the term is not plain.
@@ -40,106 +40,22 @@ pub fn truth(alloc: Global, f: &Formula) -> Result<Option<bool>, NoMemory>
 fn evaluate(alloc: Global, t: &Term) -> Evaluated
     ensures { IsEvaluation (plain t.now) result }
 {
-    match t {
-        Term::Num(n) => Ok(Some(Value::Num(i128::from(*n)))),
-        Term::Truth(b) => Ok(Some(Value::Truth(*b))),
-        Term::MinInt => Ok(None),
-        Term::MaxInt => Ok(None),
-        Term::Var(_) => Ok(None),
-        Term::Add(a, b) => from_two(
+    match t.view() {
+        View::Num(n) => Ok(Some(Value::Num(i128::from(n)))),
+        View::Truth(b) => Ok(Some(Value::Truth(b))),
+        View::Empty => Ok(Some(Value::Str(Items::new(alloc)))),
+        View::MinInt | View::MaxInt | View::Var(_) | View::Initial(_, _) => Ok(None),
+        View::One(op, a) => from_one(alloc, op, evaluate(alloc, a)),
+        View::Two(op, a, b) => from_two(alloc, op, evaluate(alloc, a), evaluate(alloc, b)),
+        View::Part(i, j, a) => part(
             alloc,
-            Binary::Add,
-            evaluate_boxed(alloc, a),
-            evaluate_boxed(alloc, b),
+            evaluate(alloc, i),
+            evaluate(alloc, j),
+            evaluate(alloc, a),
         ),
-        Term::Sub(a, b) => from_two(
-            alloc,
-            Binary::Sub,
-            evaluate_boxed(alloc, a),
-            evaluate_boxed(alloc, b),
-        ),
-        Term::Mul(a, b) => from_two(
-            alloc,
-            Binary::Mul,
-            evaluate_boxed(alloc, a),
-            evaluate_boxed(alloc, b),
-        ),
-        Term::Div(a, b) => from_two(
-            alloc,
-            Binary::Div,
-            evaluate_boxed(alloc, a),
-            evaluate_boxed(alloc, b),
-        ),
-        Term::Mod(a, b) => from_two(
-            alloc,
-            Binary::Mod,
-            evaluate_boxed(alloc, a),
-            evaluate_boxed(alloc, b),
-        ),
-        Term::Len(a) => from_one(alloc, Unary::Len, evaluate_boxed(alloc, a)),
-        Term::Empty => Ok(Some(Value::Str(Items::new(alloc)))),
-        Term::Single(a) => from_one(alloc, Unary::Single, evaluate_boxed(alloc, a)),
-        Term::Cat(a, b) => from_two(
-            alloc,
-            Binary::Cat,
-            evaluate_boxed(alloc, a),
-            evaluate_boxed(alloc, b),
-        ),
-        Term::Reverse(a) => from_one(alloc, Unary::Reverse, evaluate_boxed(alloc, a)),
-        Term::Part(i, j, a) => part(
-            alloc,
-            evaluate_boxed(alloc, i),
-            evaluate_boxed(alloc, j),
-            evaluate_boxed(alloc, a),
-        ),
-        Term::Tuple(parts) => evaluate_tuple(alloc, parts.as_slice()),
-        Term::Proj(k, a) => projection(alloc, *k, evaluate_boxed(alloc, a)),
-        Term::Eq(a, b) => from_two(
-            alloc,
-            Binary::Eq,
-            evaluate_boxed(alloc, a),
-            evaluate_boxed(alloc, b),
-        ),
-        Term::Less(a, b) => from_two(
-            alloc,
-            Binary::Less,
-            evaluate_boxed(alloc, a),
-            evaluate_boxed(alloc, b),
-        ),
-        Term::LessEq(a, b) => from_two(
-            alloc,
-            Binary::LessEq,
-            evaluate_boxed(alloc, a),
-            evaluate_boxed(alloc, b),
-        ),
-        Term::Not(a) => from_one(alloc, Unary::Not, evaluate_boxed(alloc, a)),
-        Term::And(a, b) => from_two(
-            alloc,
-            Binary::And,
-            evaluate_boxed(alloc, a),
-            evaluate_boxed(alloc, b),
-        ),
-        Term::Or(a, b) => from_two(
-            alloc,
-            Binary::Or,
-            evaluate_boxed(alloc, a),
-            evaluate_boxed(alloc, b),
-        ),
-        Term::Implies(a, b) => from_two(
-            alloc,
-            Binary::Implies,
-            evaluate_boxed(alloc, a),
-            evaluate_boxed(alloc, b),
-        ),
-        Term::Initial(_, _) => Ok(None),
+        View::Tuple(parts) => evaluate_tuple(alloc, parts),
+        View::Proj(k, a) => projection(alloc, k, evaluate(alloc, a)),
     }
-}
-
-#[cycle(evaluate)]
-fn evaluate_boxed(alloc: Global, t: &Boxed<Term>) -> Evaluated
-    ensures { IsEvaluation (plain t.now) result }
-{
-    evaluate(alloc, t.get())
 }
 
 #[cycle(evaluate)]
@@ -172,23 +88,39 @@ fn from_two(alloc: Global, op: Binary, a: Evaluated, b: Evaluated) -> Evaluated
 fn apply_binary(alloc: Global, op: Binary, a: Value, b: Value) -> Evaluated
     ensures { let v = value_step nothing zeros (binary_node op (denotes a) (denotes b)) in IsEvaluation (v, is_narrow v) result }
 {
+    if op == Binary::Cat {
+        joined(alloc, a, b)
+    } else {
+        Ok(computed(op, &a, &b))
+    }
+}
+
+/// Two strings one after the other.
+fn joined(alloc: Global, a: Value, b: Value) -> Evaluated
+    ensures { let v = value_step nothing zeros (Term-F.Cat (denotes a) (denotes b)) in IsEvaluation (v, is_narrow v) result }
+{
+    let mut entries = entries_of(alloc, a);
+    entries.append(entries_of(alloc, b))?;
+    Ok(Some(Value::Str(entries)))
+}
+
+/// What any other node with two children gives.
+fn computed(op: Binary, a: &Value, b: &Value) -> Option<Value>
+    ensures { op ≢ Binary.Cat → let v = value_step nothing zeros (binary_node op (denotes a.now) (denotes b.now)) in IsEvaluation (v, is_narrow v) (Ok result) }
+{
     match op {
-        Binary::Add => Ok(number_within(number_of(&a).checked_add(number_of(&b)))),
-        Binary::Sub => Ok(number_within(number_of(&a).checked_sub(number_of(&b)))),
-        Binary::Mul => Ok(number_within(number_of(&a).checked_mul(number_of(&b)))),
-        Binary::Div => Ok(Some(Value::Num(quotient_of(number_of(&a), number_of(&b))))),
-        Binary::Mod => Ok(Some(Value::Num(remainder_of(number_of(&a), number_of(&b))))),
-        Binary::Cat => {
-            let mut entries = entries_of(alloc, a);
-            entries.append(entries_of(alloc, b))?;
-            Ok(Some(Value::Str(entries)))
-        }
-        Binary::Eq => Ok(Some(Value::Truth(a.same(&b)))),
-        Binary::Less => Ok(Some(Value::Truth(number_of(&a) < number_of(&b)))),
-        Binary::LessEq => Ok(Some(Value::Truth(number_of(&a) <= number_of(&b)))),
-        Binary::And => Ok(Some(Value::Truth(truth_of(&a) && truth_of(&b)))),
-        Binary::Or => Ok(Some(Value::Truth(truth_of(&a) || truth_of(&b)))),
-        Binary::Implies => Ok(Some(Value::Truth(!truth_of(&a) || truth_of(&b)))),
+        Binary::Add => number_within(number_of(a).checked_add(number_of(b))),
+        Binary::Sub => number_within(number_of(a).checked_sub(number_of(b))),
+        Binary::Mul => number_within(number_of(a).checked_mul(number_of(b))),
+        Binary::Div => Some(Value::Num(quotient_of(number_of(a), number_of(b)))),
+        Binary::Mod => Some(Value::Num(remainder_of(number_of(a), number_of(b)))),
+        Binary::Cat => None,
+        Binary::Eq => Some(Value::Truth(a.same(b))),
+        Binary::Less => Some(Value::Truth(number_of(a) < number_of(b))),
+        Binary::LessEq => Some(Value::Truth(number_of(a) <= number_of(b))),
+        Binary::And => Some(Value::Truth(truth_of(a) && truth_of(b))),
+        Binary::Or => Some(Value::Truth(truth_of(a) || truth_of(b))),
+        Binary::Implies => Some(Value::Truth(!truth_of(a) || truth_of(b))),
     }
 }
 

@@ -1,6 +1,6 @@
 //! Laws of the definitions. The functions do nothing: their contracts are what is proved.
 
-ghost use Rattle.math_terms.specs.Laws.{SubstitutionKeepsValues, EqualityIsSameness, SameTermsAreEqual, ValuesHaveKinds, SortsHaveKinds};
+ghost use Rattle.math_terms.specs.Laws.{SubstitutionKeepsValues, SubstitutionKeepsKinds, EqualityIsSameness, SameTermsAreEqual, ValuesHaveKinds, StringsHaveKinds, SortsHaveKinds, SortedAreWell};
 
 /// A substituted term has the value of the term where the variable has the value of what is put for it.
 pub fn substitution_keeps_values()
@@ -27,4 +27,19 @@ pub fn values_have_kinds()
 /// Terms that have sorts are of the kinds of these.
 pub fn sorts_have_kinds()
     ensures { SortsHaveKinds }
+{}
+
+/// Terms of the kind of strings have strings as values.
+pub fn strings_have_kinds()
+    ensures { StringsHaveKinds }
+{}
+
+/// Formulas that have the sort of truth values are well-valued.
+pub fn sorted_are_well()
+    ensures { SortedAreWell }
+{}
+
+/// Substitution for a variable of the same value keeps terms well-valued.
+pub fn substitution_keeps_kinds()
+    ensures { SubstitutionKeepsKinds }
 {}

@@ -21,6 +21,16 @@ impl Model for Position {
     ghost view = { λ p. p.places.items };
 }
 
+impl From<SmallVec<u32, 16>> for Position {
+    ghost use Rattle.std.specs.Prelude.{◌≡◌};
+
+    ghost from_gives = { λ places p. p ≡ places.items };
+
+    fn from(places: SmallVec<u32, 16>) -> Position {
+        Position { places }
+    }
+}
+
 impl Position {
     /// The position with these numbers.
     pub fn new(alloc: Global, places: &[u32]) -> Result<Position, NoMemory>
@@ -33,16 +43,16 @@ impl Position {
     }
 
     /// The position's numbers. This takes no memory.
-    pub fn places(&self) -> &[u32]
-        ensures { result.now ≡ self.now }
+    pub fn places(&self) -> &SmallVec<u32, 16>
+        ensures { result.now.items ≡ self.now }
     {
-        self.places.as_slice()
+        &self.places
     }
 
     /// A second position with the same numbers.
     pub fn copy(&self, alloc: Global) -> Result<Position, NoMemory>
         ensures { IfOk result (λ p. p ≡ self.now) }
     {
-        Position::new(alloc, self.places())
+        Position::new(alloc, self.places.as_slice())
     }
 }

@@ -7,12 +7,14 @@ ghost use Rattle.math_terms.specs.Descriptors.{Interpretation, value};
 
 use crate::name::{NoMemory, TermError};
 use crate::nodes::count;
-use crate::term::{Term, both, boxed};
+use crate::term::{Term, boxed};
+use crate::together::both;
+use crate::view::View;
 use sqlite_items::{Boxed, Items};
 use std::alloc::Global;
 
 /// The most nodes that the result of a substitution may have.
-const MOST_NODES: u32 = 10_000;
+pub(crate) const MOST_NODES: u32 = 10_000;
 
 /// The term with `by` in place of each `Var(v)`. `TooLarge` says that it would have over 10,000 nodes;
 /// that is found before any memory is taken.
@@ -38,125 +40,40 @@ pub fn substitute(alloc: Global, t: &Term, v: u32, by: &Term) -> Result<Term, Te
 fn put_into(alloc: Global, t: &Term, v: u32, by: &Term) -> Result<Term, NoMemory>
     ensures { IfOk result (λ r. r ≡ put v by.now t.now) }
 {
-    match t {
-        Term::Num(n) => Ok(Term::Num(*n)),
-        Term::Truth(b) => Ok(Term::Truth(*b)),
-        Term::MinInt => Ok(Term::MinInt),
-        Term::MaxInt => Ok(Term::MaxInt),
-        Term::Var(k) => put_at(alloc, *k, v, by),
-        Term::Add(a, b) => {
+    match t.view() {
+        View::Num(n) => Ok(Term::Num(n)),
+        View::Truth(b) => Ok(Term::Truth(b)),
+        View::MinInt => Ok(Term::MinInt),
+        View::MaxInt => Ok(Term::MaxInt),
+        View::Var(k) => put_at(alloc, k, v, by),
+        View::Empty => Ok(Term::Empty),
+        View::One(op, a) => Ok(Term::one(op, put_into_boxed(alloc, a, v, by)?)),
+        View::Two(op, a, b) => {
             let (a, b) = both(
                 put_into_boxed(alloc, a, v, by),
                 put_into_boxed(alloc, b, v, by),
             )?;
-            Ok(Term::Add(a, b))
+            Ok(Term::two(op, a, b))
         }
-        Term::Sub(a, b) => {
-            let (a, b) = both(
-                put_into_boxed(alloc, a, v, by),
-                put_into_boxed(alloc, b, v, by),
-            )?;
-            Ok(Term::Sub(a, b))
-        }
-        Term::Mul(a, b) => {
-            let (a, b) = both(
-                put_into_boxed(alloc, a, v, by),
-                put_into_boxed(alloc, b, v, by),
-            )?;
-            Ok(Term::Mul(a, b))
-        }
-        Term::Div(a, b) => {
-            let (a, b) = both(
-                put_into_boxed(alloc, a, v, by),
-                put_into_boxed(alloc, b, v, by),
-            )?;
-            Ok(Term::Div(a, b))
-        }
-        Term::Mod(a, b) => {
-            let (a, b) = both(
-                put_into_boxed(alloc, a, v, by),
-                put_into_boxed(alloc, b, v, by),
-            )?;
-            Ok(Term::Mod(a, b))
-        }
-        Term::Len(a) => Ok(Term::Len(put_into_boxed(alloc, a, v, by)?)),
-        Term::Empty => Ok(Term::Empty),
-        Term::Single(a) => Ok(Term::Single(put_into_boxed(alloc, a, v, by)?)),
-        Term::Cat(a, b) => {
-            let (a, b) = both(
-                put_into_boxed(alloc, a, v, by),
-                put_into_boxed(alloc, b, v, by),
-            )?;
-            Ok(Term::Cat(a, b))
-        }
-        Term::Reverse(a) => Ok(Term::Reverse(put_into_boxed(alloc, a, v, by)?)),
-        Term::Part(i, j, a) => {
-            let i = put_into_boxed(alloc, i, v, by)?;
-            let (j, a) = both(
+        View::Part(i, j, a) => {
+            let rest = both(
                 put_into_boxed(alloc, j, v, by),
                 put_into_boxed(alloc, a, v, by),
-            )?;
+            );
+            let (i, (j, a)) = both(put_into_boxed(alloc, i, v, by), rest)?;
             Ok(Term::Part(i, j, a))
         }
-        Term::Tuple(parts) => Ok(Term::Tuple(put_into_all(alloc, parts.as_slice(), v, by)?)),
-        Term::Proj(k, a) => Ok(Term::Proj(*k, put_into_boxed(alloc, a, v, by)?)),
-        Term::Eq(a, b) => {
-            let (a, b) = both(
-                put_into_boxed(alloc, a, v, by),
-                put_into_boxed(alloc, b, v, by),
-            )?;
-            Ok(Term::Eq(a, b))
-        }
-        Term::Less(a, b) => {
-            let (a, b) = both(
-                put_into_boxed(alloc, a, v, by),
-                put_into_boxed(alloc, b, v, by),
-            )?;
-            Ok(Term::Less(a, b))
-        }
-        Term::LessEq(a, b) => {
-            let (a, b) = both(
-                put_into_boxed(alloc, a, v, by),
-                put_into_boxed(alloc, b, v, by),
-            )?;
-            Ok(Term::LessEq(a, b))
-        }
-        Term::Not(a) => Ok(Term::Not(put_into_boxed(alloc, a, v, by)?)),
-        Term::And(a, b) => {
-            let (a, b) = both(
-                put_into_boxed(alloc, a, v, by),
-                put_into_boxed(alloc, b, v, by),
-            )?;
-            Ok(Term::And(a, b))
-        }
-        Term::Or(a, b) => {
-            let (a, b) = both(
-                put_into_boxed(alloc, a, v, by),
-                put_into_boxed(alloc, b, v, by),
-            )?;
-            Ok(Term::Or(a, b))
-        }
-        Term::Implies(a, b) => {
-            let (a, b) = both(
-                put_into_boxed(alloc, a, v, by),
-                put_into_boxed(alloc, b, v, by),
-            )?;
-            Ok(Term::Implies(a, b))
-        }
-        Term::Initial(k, a) => Ok(Term::Initial(*k, put_into_boxed(alloc, a, v, by)?)),
+        View::Tuple(parts) => Ok(Term::Tuple(put_into_all(alloc, parts, v, by)?)),
+        View::Proj(k, a) => Ok(Term::Proj(k, put_into_boxed(alloc, a, v, by)?)),
+        View::Initial(k, a) => Ok(Term::Initial(k, put_into_boxed(alloc, a, v, by)?)),
     }
 }
 
 #[cycle(put)]
-fn put_into_boxed(
-    alloc: Global,
-    a: &Boxed<Term>,
-    v: u32,
-    by: &Term,
-) -> Result<Boxed<Term>, NoMemory>
+fn put_into_boxed(alloc: Global, a: &Term, v: u32, by: &Term) -> Result<Boxed<Term>, NoMemory>
     ensures { IfOk result (λ r. r ≡ put v by.now a.now) }
 {
-    boxed(alloc, put_into(alloc, a.get(), v, by)?)
+    boxed(alloc, put_into(alloc, a, v, by)?)
 }
 
 #[cycle(put)]

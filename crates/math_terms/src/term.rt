@@ -3,6 +3,8 @@
 ghost use Rattle.std.specs.Prelude.{◌≡◌, ◌↔◌, IfOk, IsTrue};
 
 use crate::name::NoMemory;
+use crate::together::both;
+use crate::view::View;
 use sqlite_items::{Boxed, Items};
 use std::alloc::Global;
 
@@ -47,73 +49,26 @@ impl Term {
     pub fn copy(&self, alloc: Global) -> Result<Term, NoMemory>
         ensures { IfOk result (λ t. t ≡ self.now) }
     {
-        match self {
-            Term::Num(n) => Ok(Term::Num(*n)),
-            Term::Truth(b) => Ok(Term::Truth(*b)),
-            Term::MinInt => Ok(Term::MinInt),
-            Term::MaxInt => Ok(Term::MaxInt),
-            Term::Var(k) => Ok(Term::Var(*k)),
-            Term::Add(a, b) => {
+        match self.view() {
+            View::Num(n) => Ok(Term::Num(n)),
+            View::Truth(b) => Ok(Term::Truth(b)),
+            View::MinInt => Ok(Term::MinInt),
+            View::MaxInt => Ok(Term::MaxInt),
+            View::Var(k) => Ok(Term::Var(k)),
+            View::Empty => Ok(Term::Empty),
+            View::One(op, a) => Ok(Term::one(op, copy_boxed(alloc, a)?)),
+            View::Two(op, a, b) => {
                 let (a, b) = both(copy_boxed(alloc, a), copy_boxed(alloc, b))?;
-                Ok(Term::Add(a, b))
+                Ok(Term::two(op, a, b))
             }
-            Term::Sub(a, b) => {
-                let (a, b) = both(copy_boxed(alloc, a), copy_boxed(alloc, b))?;
-                Ok(Term::Sub(a, b))
-            }
-            Term::Mul(a, b) => {
-                let (a, b) = both(copy_boxed(alloc, a), copy_boxed(alloc, b))?;
-                Ok(Term::Mul(a, b))
-            }
-            Term::Div(a, b) => {
-                let (a, b) = both(copy_boxed(alloc, a), copy_boxed(alloc, b))?;
-                Ok(Term::Div(a, b))
-            }
-            Term::Mod(a, b) => {
-                let (a, b) = both(copy_boxed(alloc, a), copy_boxed(alloc, b))?;
-                Ok(Term::Mod(a, b))
-            }
-            Term::Len(a) => Ok(Term::Len(copy_boxed(alloc, a)?)),
-            Term::Empty => Ok(Term::Empty),
-            Term::Single(a) => Ok(Term::Single(copy_boxed(alloc, a)?)),
-            Term::Cat(a, b) => {
-                let (a, b) = both(copy_boxed(alloc, a), copy_boxed(alloc, b))?;
-                Ok(Term::Cat(a, b))
-            }
-            Term::Reverse(a) => Ok(Term::Reverse(copy_boxed(alloc, a)?)),
-            Term::Part(i, j, a) => {
-                let i = copy_boxed(alloc, i)?;
-                let (j, a) = both(copy_boxed(alloc, j), copy_boxed(alloc, a))?;
+            View::Part(i, j, a) => {
+                let rest = both(copy_boxed(alloc, j), copy_boxed(alloc, a));
+                let (i, (j, a)) = both(copy_boxed(alloc, i), rest)?;
                 Ok(Term::Part(i, j, a))
             }
-            Term::Tuple(parts) => Ok(Term::Tuple(copy_terms(alloc, parts.as_slice())?)),
-            Term::Proj(k, a) => Ok(Term::Proj(*k, copy_boxed(alloc, a)?)),
-            Term::Eq(a, b) => {
-                let (a, b) = both(copy_boxed(alloc, a), copy_boxed(alloc, b))?;
-                Ok(Term::Eq(a, b))
-            }
-            Term::Less(a, b) => {
-                let (a, b) = both(copy_boxed(alloc, a), copy_boxed(alloc, b))?;
-                Ok(Term::Less(a, b))
-            }
-            Term::LessEq(a, b) => {
-                let (a, b) = both(copy_boxed(alloc, a), copy_boxed(alloc, b))?;
-                Ok(Term::LessEq(a, b))
-            }
-            Term::Not(a) => Ok(Term::Not(copy_boxed(alloc, a)?)),
-            Term::And(a, b) => {
-                let (a, b) = both(copy_boxed(alloc, a), copy_boxed(alloc, b))?;
-                Ok(Term::And(a, b))
-            }
-            Term::Or(a, b) => {
-                let (a, b) = both(copy_boxed(alloc, a), copy_boxed(alloc, b))?;
-                Ok(Term::Or(a, b))
-            }
-            Term::Implies(a, b) => {
-                let (a, b) = both(copy_boxed(alloc, a), copy_boxed(alloc, b))?;
-                Ok(Term::Implies(a, b))
-            }
-            Term::Initial(k, a) => Ok(Term::Initial(*k, copy_boxed(alloc, a)?)),
+            View::Tuple(parts) => Ok(Term::Tuple(copy_terms(alloc, parts)?)),
+            View::Proj(k, a) => Ok(Term::Proj(k, copy_boxed(alloc, a)?)),
+            View::Initial(k, a) => Ok(Term::Initial(k, copy_boxed(alloc, a)?)),
         }
     }
 
@@ -253,26 +208,10 @@ pub fn boxed(alloc: Global, t: Term) -> Result<Boxed<Term>, NoMemory>
 }
 
 #[cycle(copy)]
-fn copy_boxed(alloc: Global, a: &Boxed<Term>) -> Result<Boxed<Term>, NoMemory>
+pub(crate) fn copy_boxed(alloc: Global, a: &Term) -> Result<Boxed<Term>, NoMemory>
     ensures { IfOk result (λ b. b ≡ a.now) }
 {
-    boxed(alloc, a.get().copy(alloc)?)
-}
-
-/// Both values, where memory sufficed for both.
-pub(crate) fn both<T: Drop, U: Drop>(
-    a: Result<T, NoMemory>,
-    b: Result<U, NoMemory>,
-) -> Result<(T, U), NoMemory>
-    ensures { IfOk result (λ p. (a ≡ Ok p.0) × (b ≡ Ok p.1)) }
-{
-    match a {
-        Ok(a) => match b {
-            Ok(b) => Ok((a, b)),
-            Err(e) => Err(e),
-        },
-        Err(e) => Err(e),
-    }
+    boxed(alloc, a.copy(alloc)?)
 }
 
 #[cycle(same)]

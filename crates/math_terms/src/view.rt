@@ -2,9 +2,10 @@
 
 ghost use Rattle.std.specs.Prelude.{◌≡◌};
 ghost use Rattle.math_terms.specs.declared.term.Term.TheViews.{roll-Term};
-ghost use Rattle.math_terms.specs.Views.{node_of};
+ghost use Rattle.math_terms.specs.Views.{binary_node, node_of, unary_node};
 
 use crate::term::Term;
+use sqlite_items::Boxed;
 
 /// What stands between two terms.
 #[derive(Clone, Copy, Debug, PartialEq, Eq)]
@@ -81,6 +82,37 @@ impl Term {
             Term::Or(a, b) => View::Two(Binary::Or, a.get(), b.get()),
             Term::Implies(a, b) => View::Two(Binary::Implies, a.get(), b.get()),
             Term::Initial(k, a) => View::Initial(*k, a.get()),
+        }
+    }
+    /// The term with this over one part.
+    pub fn one(op: Unary, a: Boxed<Term>) -> Term
+        ensures { result ≡ roll-Term (unary_node op a) }
+    {
+        match op {
+            Unary::Len => Term::Len(a),
+            Unary::Single => Term::Single(a),
+            Unary::Reverse => Term::Reverse(a),
+            Unary::Not => Term::Not(a),
+        }
+    }
+
+    /// The term with this between two parts.
+    pub fn two(op: Binary, a: Boxed<Term>, b: Boxed<Term>) -> Term
+        ensures { result ≡ roll-Term (binary_node op a b) }
+    {
+        match op {
+            Binary::Add => Term::Add(a, b),
+            Binary::Sub => Term::Sub(a, b),
+            Binary::Mul => Term::Mul(a, b),
+            Binary::Div => Term::Div(a, b),
+            Binary::Mod => Term::Mod(a, b),
+            Binary::Cat => Term::Cat(a, b),
+            Binary::Eq => Term::Eq(a, b),
+            Binary::Less => Term::Less(a, b),
+            Binary::LessEq => Term::LessEq(a, b),
+            Binary::And => Term::And(a, b),
+            Binary::Or => Term::Or(a, b),
+            Binary::Implies => Term::Implies(a, b),
         }
     }
 }
