@@ -6,7 +6,7 @@ use Rattle.std.proofs.lemmas.List.Sums.{count_by-le-length, length-filter}
 use Rattle.num_theory.specs.Lines.{is_contradiction}
 use Rattle.linear_prover.specs.declared.rows_in_hand.Combination.{Combination}
 use Rattle.linear_prover.specs.Elimination.{Numbered, Search, Going, Refuted, Over, combination, eliminate, eliminate_from, going, is_without}
-use Rattle.linear_prover.specs.Working.{AreUsable, IsUsable}
+use Rattle.linear_prover.specs.working.Eliminating.{AreUsable, IsUsable}
 use Rattle.linear_prover.proofs.Going.{Keeps, keeps_eliminate, row_of}
 use Rattle.linear_prover.proofs.Making.{AreMade}
 

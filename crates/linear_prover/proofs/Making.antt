@@ -6,7 +6,7 @@ use Rattle.std.proofs.lemmas.List.Elements.{All-push, All-weaker, All-filter}
 use Rattle.num_theory.specs.Lines.{is_contradiction, sum_of}
 use Rattle.linear_prover.specs.declared.rows_in_hand.Combination.{Combination}
 use Rattle.linear_prover.specs.Elimination.{Numbered, Search, combination, eliminate, eliminate_from, is_without, numbered_from}
-use Rattle.linear_prover.specs.Working.{IsRow}
+use Rattle.linear_prover.specs.working.Eliminating.{IsRow}
 use Rattle.linear_prover.proofs.Narrowness.{column_narrow}
 use Rattle.linear_prover.proofs.Reducing.{IsRow-sum_of}
 use Rattle.linear_prover.proofs.Going.{Keeps, keeps_eliminate, keeps_going, row_of}

@@ -5,7 +5,7 @@ use Rattle.std.proofs.lemmas.Bool.Decides.{nat_tests}
 use Rattle.std.proofs.lemmas.List.{get_or-set_same, get_or-set_other, get_or_default, get_or_past, length-set, length-reverse, length-take, drop-set-lt, drop_more, take_more, take_all, drop_all, reverse-append}
 use Rattle.linear_prover.specs.declared.rows_in_hand.Combination.{Combination}
 use Rattle.linear_prover.specs.Elimination.{kept, is_among}
-use Rattle.linear_prover.specs.Working.{AreFlags, IsThere, flagged, marked}
+use Rattle.linear_prover.specs.working.Eliminating.{AreFlags, IsThere, flagged, marked}
 
 pub length-marked : (n : ℕ) (flags : List Bool) (row : ℕ) → length (marked n flags row) ≡ length flags
 length-marked n flags row = grind (arith, nat_tests, length-set)

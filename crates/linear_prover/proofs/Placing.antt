@@ -6,7 +6,7 @@ use Rattle.std.proofs.lemmas.List.Sums.{sum_by-cons, count_by-le-length}
 use Rattle.math_terms.specs.declared.name.Line.{Line}
 use Rattle.linear_prover.specs.declared.rows_in_hand.Combination.{Combination}
 use Rattle.linear_prover.specs.Elimination.{called, kept, line_of, lines_of, needed_by_last, place_of}
-use Rattle.linear_prover.specs.Working.{AreFlags, ArePlaces, IsClosed, IsThere, called_by, flagged, line_by}
+use Rattle.linear_prover.specs.working.Eliminating.{AreFlags, ArePlaces, IsClosed, IsThere, called_by, flagged, line_by}
 
 abbrev pub numbers : List (ℕ × Combination) → List ℕ
 numbers ds = map (λ d. d.0) ds

@@ -5,10 +5,10 @@ use Rattle.std.proofs.Math.Nat.{div-le_self}
 use Rattle.std.proofs.lemmas.Bool.{and_parts, and_from, cond_both}
 use Rattle.std.proofs.lemmas.List.{length-map}
 use Rattle.std.proofs.lemmas.Option.{cond_some}
-use Rattle.num_theory.specs.Rows.{combined, divisor, reduced}
-use Rattle.num_theory.specs.Lines.{narrow, all_narrow, sum_of}
-use Rattle.linear_prover.specs.Working.{IsRow}
-use Rattle.linear_prover.proofs.Narrowness.{IsNarrow-from_narrow, narrow_from_IsNarrow}
+use Rattle.num_theory.specs.Rows.{all_narrow, combined, divisor, narrow, reduced}
+use Rattle.num_theory.specs.Lines.{sum_of}
+use Rattle.linear_prover.specs.working.Eliminating.{IsRow}
+use Rattle.linear_prover.proofs.Narrowness.{narrow_below, narrow_magnitude}
 
 quotient_bound : (z : ℤ) (d : ℕ) → unsigned_abs (int_div_euclid z (pos d)) ≤ unsigned_abs z
 quotient_bound (pos a) d = div-le_self a d
@@ -18,9 +18,9 @@ quotients_narrow : (d : ℕ) (zs : List ℤ) → all_narrow zs ≡ true → all_
 quotients_narrow d [] h = refl
 quotients_narrow d (z ∷ zs) h =
     let parts = and_parts (narrow z) (all_narrow zs) h in
-    let small = IsNarrow-from_narrow z parts.0 in
+    let small = narrow_magnitude z parts.0 in
     and_from (narrow (int_div_euclid z (pos d))) (all_narrow (map (λ z. int_div_euclid z (pos d)) zs))
-    (narrow_from_IsNarrow (int_div_euclid z (pos d)) (omega (arith, quotient_bound z d, small))) (quotients_narrow d zs parts.1)
+    (narrow_below (int_div_euclid z (pos d)) (omega (arith, quotient_bound z d, small))) (quotients_narrow d zs parts.1)
 
 length-combined : (p : ℕ) (xs : List ℤ) (q : ℕ) (ys : List ℤ) → length xs ≡ length ys → length (combined p xs q ys) ≡ length xs
 length-combined p [] q ys same = refl

@@ -9,15 +9,15 @@ use Rattle.std.proofs.lemmas.List.Elements.{All-from_recursion, All-weaker}
 use Rattle.std.proofs.lemmas.Option.{same_Some, slice_get-get_or}
 use Rattle.math_terms.specs.declared.name.Line.{Line}
 use Rattle.num_theory.specs.declared.table.RowTable.{RowTable}
-use Rattle.num_theory.specs.Rows.{coefficients, combined, combined_number, divisor, gcd, reduced}
-use Rattle.num_theory.specs.Lines.{all_narrow, constant, is_contradiction, is_refuted, numbered, refutes, sum_by, sum_of}
+use Rattle.num_theory.specs.Rows.{all_narrow, coefficients, combined, combined_number, divisor, gcd, reduced}
+use Rattle.num_theory.specs.Lines.{constant, is_contradiction, is_refuted, numbered, refutes, sum_by, sum_of}
 use Rattle.linear_prover.specs.declared.rows_in_hand.Hand.{Hand}
 use Rattle.linear_prover.specs.declared.rows_in_hand.Stop.{Stop}
 use Rattle.linear_prover.specs.declared.rows_in_hand.Stop.TheVariants.{Contradiction}
 use Rattle.linear_prover.specs.Elimination.{Numbered, Search, Going, Refuted, Over, eliminate_from, first_line, found, numbered_from, or_else, refutation}
-use Rattle.linear_prover.specs.Refusal.{IsTable}
+use Rattle.num_theory.specs.Table.{IsTable}
 use Rattle.linear_prover.specs.declared.rows_in_hand.Combination.{Combination}
-use Rattle.linear_prover.specs.Working.{AreUsable, Goes, IsRow, elimination}
+use Rattle.linear_prover.specs.working.Eliminating.{AreUsable, Goes, IsRow, elimination}
 use Rattle.linear_prover.proofs.Counting.{IsBounded, bounded_from, usable_from}
 use Rattle.linear_prover.proofs.Making.{IsEnding, IsInHand, IsSound, all_rows, length-numbered_from, row_at, sound_from, start_in_hand}
 use Rattle.linear_prover.proofs.Replaying.{ends_push, last_refutes, sum_at_rows}

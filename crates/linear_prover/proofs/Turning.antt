@@ -5,7 +5,7 @@ use Rattle.std.proofs.lemmas.List.{length-take-le, take_more}
 use Rattle.std.proofs.lemmas.List.Elements.{All-push, All-filter}
 use Rattle.linear_prover.specs.declared.rows_in_hand.Combination.{Combination}
 use Rattle.linear_prover.specs.Elimination.{Numbered, Going, combination, eliminate, eliminate_from, going, is_without, numbered_from}
-use Rattle.linear_prover.specs.Working.{IsRow}
+use Rattle.linear_prover.specs.working.Eliminating.{IsRow}
 use Rattle.linear_prover.proofs.Going.{Keeps, keeps_eliminate, row_of}
 use Rattle.linear_prover.proofs.Reducing.{IsRow-sum_of}
 

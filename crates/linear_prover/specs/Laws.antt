@@ -4,7 +4,7 @@ use Rattle.math_terms.specs.declared.name.Line.{Line}
 use Rattle.num_theory.specs.declared.table.RowTable.{RowTable}
 use Rattle.num_theory.specs.Lines.{refutes}
 use Rattle.linear_prover.specs.Elimination.{refutation}
-use Rattle.linear_prover.specs.Refusal.{IsTable}
+use Rattle.num_theory.specs.Table.{IsTable}
 
 -- The lines that are found for a table refute its rows.
 abbrev pub RefutationsRefute : Type 0

@@ -1,4 +1,4 @@
 pub mod Elimination
 pub mod Laws
 pub mod Refusal
-pub mod Working
+pub mod working

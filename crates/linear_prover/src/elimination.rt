@@ -4,8 +4,9 @@ ghost use Rattle.std.specs.Option.{option_map};
 ghost use Rattle.num_theory.specs.Lines.{refutes};
 ghost use Rattle.linear_prover.specs.Elimination.{eliminate_from, found, numbered_from, refutation};
 ghost use Rattle.linear_prover.specs.Elimination as spec;
-ghost use Rattle.linear_prover.specs.Refusal.{IsRefuteRefusal, IsTable};
-ghost use Rattle.linear_prover.specs.Working.{Goes, IsRow, elimination};
+ghost use Rattle.num_theory.specs.Table.{IsTable};
+ghost use Rattle.linear_prover.specs.Refusal.{IsRefuteRefusal};
+ghost use Rattle.linear_prover.specs.working.Eliminating.{Goes, IsRow, elimination};
 
 use crate::multipliers::lines_of;
 use crate::rows_in_hand::{Hand, NumberedRow, Stop, contradicts, eliminate, push};

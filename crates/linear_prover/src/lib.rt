@@ -5,8 +5,7 @@ mod elimination;
 mod laws;
 mod multipliers;
 mod rows_in_hand;
-#[cfg(test)]
-mod tests;
 
 pub use elimination::{Multipliers, RefuteError, refute};
 pub use laws::refutations_refute;
+pub use math_terms::Line;

@@ -2,7 +2,7 @@
 ghost use Rattle.std.specs.Prelude.{◌≡◌, ◌+◌, ◌^◌, ◌<◌, [], ◌∷◌, ◌++◌, All, IfOk, List, OnOk, length, map, replicate, reverse, false, ℕ};
 ghost use Rattle.linear_prover.specs.Elimination.{kept, needed_by_last};
 ghost use Rattle.linear_prover.specs.Elimination as spec;
-ghost use Rattle.linear_prover.specs.Working.{AreFlags, ArePlaces, AreUsable, IsClosed, IsUsable, called_by, flagged, line_by, marked};
+ghost use Rattle.linear_prover.specs.working.Eliminating.{AreFlags, ArePlaces, AreUsable, IsClosed, IsUsable, called_by, flagged, line_by, marked};
 
 use crate::rows_in_hand::{Combination, push};
 use math_terms::{Line, NoMemory};

@@ -4,7 +4,7 @@ ghost use Rattle.std.specs.List.{filter, list_all};
 ghost use Rattle.std.specs.Ordering.{int_eq};
 ghost use Rattle.num_theory.specs.Lines.{is_contradiction, sum_of};
 ghost use Rattle.linear_prover.specs.Elimination as spec;
-ghost use Rattle.linear_prover.specs.Working.{CanCombine, Goes};
+ghost use Rattle.linear_prover.specs.working.Eliminating.{CanCombine, Goes};
 
 use math_terms::NoMemory;
 use num_theory::{Wide, combine, reduce};

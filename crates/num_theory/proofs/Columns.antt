@@ -3,7 +3,7 @@ use Rattle.std.proofs.Common.{◌≡◌, ◌∙◌, sym, ap, refl, subst, ℕ, z
 use Rattle.std.specs.Int.{int_div_euclid, int_rem_euclid}
 use Rattle.std.specs.List.{AllByRecursion, list_any}
 use Rattle.std.proofs.Math.Seq.{take-append_seam}
-use Rattle.std.proofs.lemmas.Bool.{false≢true, false_from_ne_true, or_parts, or_left, or_right, ne_eqb}
+use Rattle.std.proofs.lemmas.Bool.{or_parts, or_left, or_right, ne_eqb}
 use Rattle.std.proofs.lemmas.Int.{ints}
 use Rattle.std.proofs.lemmas.List.{length-append}
 use Rattle.std.proofs.lemmas.List.Folds.{list_any-append}
@@ -20,7 +20,7 @@ use Rattle.num_theory.specs.Rows.{DividesAll, coefficients, divisor, reduced}
 use Rattle.num_theory.specs.Table.{Sum, coefficient, row_of, with_atom}
 use Rattle.num_theory.proofs.Divisors.{divisor-is}
 use Rattle.num_theory.proofs.Integers.{euclid, quotient_exact, quotient_sign, remainder_small, sum_times, times_times}
-use Rattle.num_theory.proofs.Sums.{IsDistinct, IsFresh}
+use Rattle.num_theory.proofs.Sums.{IsDistinct, IsFresh, same_around}
 
 -- no atom stands twice
 abbrev pub AreDistinct : List Term → Type 0
@@ -83,14 +83,11 @@ module _ (law : SameTermsAreEqual) where
   pub itself : (t : Term) → same_term t t ≡ true
   itself t = (law t t).1 refl
 
-  same_turned : (t u : Term) → same_term t u ≡ false → same_term u t ≡ false
-  same_turned t u e = false_from_ne_true (same_term u t) (λ f. absurd (false≢true (sym e ∙ (law t u).1 (sym ((law u t).0 f)))))
-
   distinct_push : (atoms : List Term) (t : Term) → AreDistinct atoms → list_any (same_term t) atoms ≡ false → AreDistinct (atoms ++ t ∷ [])
   distinct_push [] t all new = (refl, tt)
   distinct_push (a ∷ atoms) t all new =
       let parts = or_parts (same_term t a) (list_any (same_term t) atoms) new in (
-        list_any-append (same_term a) atoms (t ∷ []) ∙ (λ i. all.0 i || (same_turned t a parts.0 i || false)),
+        list_any-append (same_term a) atoms (t ∷ []) ∙ (λ i. all.0 i || (same_around law t a parts.0 i || false)),
         distinct_push atoms t all.1 parts.1,
       )
 
@@ -144,7 +141,7 @@ module _ (law : SameTermsAreEqual) where
     dot_absent p ps [] absent = refl
     dot_absent p ps (t ∷ ts) absent =
         let parts = or_parts (same_term p.1 t) (list_any (same_term p.1) ts) absent in
-        (λ i. (if same_turned p.1 t parts.0 i then p.0 else coefficient t ps) *ℤ worth_of t +ℤ dot_absent p ps ts parts.1 i)
+        (λ i. (if same_around law p.1 t parts.0 i then p.0 else coefficient t ps) *ℤ worth_of t +ℤ dot_absent p ps ts parts.1 i)
 
     dot_cons : (p : Product) (ps : List Product) (atoms : List Term) → AreDistinct atoms → list_any (same_term p.1) atoms ≡ true → IsFresh p.1 ps →
         dot (p ∷ ps) atoms ≡ p.0 *ℤ worth_of p.1 +ℤ dot ps atoms
@@ -165,7 +162,7 @@ module _ (law : SameTermsAreEqual) where
             (λ i. p.0 *ℤ worth_of (is i) +ℤ dot_absent p ps ts (subst (λ u. list_any (same_term u) ts ≡ false) is all.0) i)
             ∙ ap (λ x. p.0 *ℤ worth_of p.1 +ℤ x) (none (worth_of t) (dot ps ts) ∙ ap (λ c. c *ℤ worth_of t +ℤ dot ps ts) (sym (fresh_coefficient t ps (subst (λ u. IsFresh u ps) (sym is) fresh))))
         by_test false e rest =
-            let there : list_any (same_term p.1) ts ≡ true = sym (ap (λ b. b || list_any (same_term p.1) ts) (same_turned t p.1 e)) ∙ here in
+            let there : list_any (same_term p.1) ts ≡ true = sym (ap (λ b. b || list_any (same_term p.1) ts) (same_around law t p.1 e)) ∙ here in
             ap (λ x. coefficient t ps *ℤ worth_of t +ℤ x) (rest there fresh)
             ∙ around (coefficient t ps *ℤ worth_of t) (p.0 *ℤ worth_of p.1) (dot ps ts)
 

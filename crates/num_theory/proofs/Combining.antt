@@ -1,6 +1,7 @@
 -- A combined row, place by place.
-use Rattle.std.proofs.Common.{◌≡◌, ℕ, zero, suc, ◌<◌, List, [], ◌∷◌, length, get_or, ℤ, pos, refl, arith}
-use Rattle.num_theory.specs.Rows.{combined, combined_number, IsNarrow, AllNarrow}
+use Rattle.std.proofs.Common.{◌≡◌, sym, subst, ◌+◌, ◌==◌, Bool, false, ℕ, zero, suc, ◌<◌, List, [], ◌∷◌, length, get_or, ℤ, pos, true, refl, arith}
+use Rattle.std.proofs.lemmas.Bool.{and_from, and_parts, eqb-false, eqb-true}
+use Rattle.num_theory.specs.Rows.{all_narrow, combined, combined_number, narrow}
 
 -- what stands at one place of the combined row
 abbrev pub combined_at : ℕ → List ℤ → ℕ → List ℤ → ℕ → ℤ
@@ -19,15 +20,25 @@ combined-from_places p (x ∷ xs) q (y ∷ ys) (z ∷ zs) same long each =
     cc
 
 pub narrow-from_places : (p : ℕ) (xs : List ℤ) (q : ℕ) (ys : List ℤ) → length xs ≡ length ys →
-    ((j : ℕ) → j < length xs → IsNarrow (combined_at p xs q ys j)) → AllNarrow (combined p xs q ys)
-narrow-from_places p [] q ys same each = tt
-narrow-from_places p (x ∷ xs) q [] same each = tt
+    ((j : ℕ) → j < length xs → narrow (combined_at p xs q ys j) ≡ true) → all_narrow (combined p xs q ys) ≡ true
+narrow-from_places p [] q ys same each = refl
+narrow-from_places p (x ∷ xs) q [] same each = refl
 narrow-from_places p (x ∷ xs) q (y ∷ ys) same each =
-    (each 0 (omega arith), narrow-from_places p xs q ys (omega arith) (λ j within. each (suc j) (omega arith)))
+    and_from (narrow (combined_number p x q y)) (all_narrow (combined p xs q ys)) (each 0 (omega arith))
+    (narrow-from_places p xs q ys (omega arith) (λ j within. each (suc j) (omega arith)))
 
 pub narrow-at : (p : ℕ) (xs : List ℤ) (q : ℕ) (ys : List ℤ) (j : ℕ) → length xs ≡ length ys → j < length xs →
-    AllNarrow (combined p xs q ys) → IsNarrow (combined_at p xs q ys j)
+    all_narrow (combined p xs q ys) ≡ true → narrow (combined_at p xs q ys j) ≡ true
 narrow-at p [] q ys j same within all = absurd (omega arith)
 narrow-at p (x ∷ xs) q [] j same within all = absurd (omega arith)
-narrow-at p (x ∷ xs) q (y ∷ ys) zero same within all = all.0
-narrow-at p (x ∷ xs) q (y ∷ ys) (suc j) same within all = narrow-at p xs q ys j (omega arith) (omega arith) all.1
+narrow-at p (x ∷ xs) q (y ∷ ys) zero same within all = (and_parts (narrow (combined_number p x q y)) (all_narrow (combined p xs q ys)) all).0
+narrow-at p (x ∷ xs) q (y ∷ ys) (suc j) same within all =
+    narrow-at p xs q ys j (omega arith) (omega arith) (and_parts (narrow (combined_number p x q y)) (all_narrow (combined p xs q ys)) all).1
+
+-- what holds at the first k places and at the next one
+pub one_more : (P : ℕ → Type 0) (k : ℕ) → ((j : ℕ) → j < k → P j) → P k → (j : ℕ) → j < k + 1 → P j
+one_more P k before here j within = by_test (j == k) refl
+  where
+    by_test : (b : Bool) → (j == k) ≡ b → P j
+    by_test true is = subst P (sym (eqb-true j k is)) here
+    by_test false is = before j (omega (arith, eqb-false j k is))

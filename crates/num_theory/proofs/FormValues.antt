@@ -12,14 +12,16 @@ use Rattle.math_terms.specs.Descriptors.{Interpretation, starts_in, value}
 use Rattle.math_terms.specs.Laws.{SameTermsAreEqual}
 use Rattle.math_terms.specs.Meaning.{Valuation, value_step}
 use Rattle.math_terms.specs.Values.{Val, number, quotient, remainder}
-use Rattle.num_theory.specs.Lines.{narrow}
-use Rattle.num_theory.specs.Linear.{Form, Product, add_products, atom_form, clipped, constant_form, formed, is_constant, linear_of, multiple, plus, product_form, remainder_by, remainder_over, scaled, shown, times}
+use Rattle.num_theory.specs.declared.number.Number.{Number}
+use Rattle.num_theory.specs.declared.number.Number.TheVariants.{Exact}
+use Rattle.num_theory.specs.Number.{exact, is_narrow, product, sum}
+use Rattle.num_theory.specs.Linear.{Form, Product, add_products, atom_form, constant_form, exact_product, formed, is_constant, linear_of, minus_one, multiple, plus, product_form, remainder_by, remainder_over, scaled, shown, times}
 use Rattle.num_theory.specs.Laws.{FormsKeepValues, sum_of_products}
 use Rattle.std.specs.Option.{IfSome}
 use Rattle.num_theory.specs.declared.table.LinearForm.{LinearForm}
 use Rattle.num_theory.specs.Making.{IsWellMade, linear_shown}
 use Rattle.num_theory.proofs.Forming.{form_at, form_other, formed_first, is_other, product_atom, remainder_above, remainder_at}
-use Rattle.num_theory.proofs.Integers.{clipped_sum, clipped_times, remainder_is, sum_times}
+use Rattle.num_theory.proofs.Integers.{exact_sum, exact_times, remainder_is, sum_times}
 use Rattle.num_theory.proofs.Sums.{IsDistinct, adds_value, distinct_adds, distinct_scaled, open_all, scaled_value, shown_value, zero_value}
 use Rattle.num_theory.proofs.WellMade.{form_well, made_parts, made_well}
 
@@ -32,34 +34,34 @@ module _ (law : SameTermsAreEqual) (I : Interpretation) (w : Valuation) where
 
   -- what a form is worth
   abbrev form_worth : Form → ℤ
-  form_worth f = sum_of_products I w f.products +ℤ f.constant
+  form_worth f = sum_of_products I w (map exact_product f.products) +ℤ exact f.constant
 
   plus_value : (f g : Form) → IsWellMade f → IsWellMade g → IsDistinct g.products → (plus f g).is_narrow ≡ true →
       form_worth (plus f g) ≡ form_worth f +ℤ form_worth g
   plus_value f g well_f well_g distinct small =
-      let both = and_parts f.is_narrow g.is_narrow (made_parts (f.is_narrow && g.is_narrow) (add_products f.products g.products) (clipped (f.constant +ℤ g.constant)) small) in
+      let both = and_parts f.is_narrow g.is_narrow (made_parts (f.is_narrow && g.is_narrow) (add_products f.products g.products) (sum f.constant g.constant) small) in
       let in_f = well_f both.0 in
       let in_g = well_g both.1 in
-      (λ i. adds_value law I w f.products g.products in_g.0 distinct (open_all f.products g.products in_f.0) i +ℤ clipped_sum f.constant g.constant in_f.1 in_g.1 i)
-      ∙ around (sum_of_products I w f.products) (sum_of_products I w g.products) f.constant g.constant
+      (λ i. adds_value law I w f.products g.products in_g.0 distinct (open_all f.products g.products in_f.0) i +ℤ exact_sum f.constant g.constant in_f.1 in_g.1 i)
+      ∙ around (sum_of_products I w (map exact_product f.products)) (sum_of_products I w (map exact_product g.products)) (exact f.constant) (exact g.constant)
     where
       around : (x y z v : ℤ) → (x +ℤ y) +ℤ (z +ℤ v) ≡ (x +ℤ z) +ℤ (y +ℤ v)
       around x y z v = omega (arith, ints)
 
-  times_value : (k : ℤ) (f : Form) → IsWellMade f → narrow k ≡ true → f.is_narrow ≡ true → form_worth (times k f) ≡ k *ℤ form_worth f
+  times_value : (k : Number) (f : Form) → IsWellMade f → is_narrow k ≡ true → f.is_narrow ≡ true → form_worth (times k f) ≡ exact k *ℤ form_worth f
   times_value k f well_f small narrow_f =
       let in_f = well_f narrow_f in
-      (λ i. scaled_value I w k f.products small in_f.0 i +ℤ clipped_times k f.constant small in_f.1 i)
-      ∙ sym (sum_times k (sum_of_products I w f.products) f.constant)
+      (λ i. scaled_value I w k f.products small in_f.0 i +ℤ exact_times k f.constant small in_f.1 i)
+      ∙ sym (sum_times (exact k) (sum_of_products I w (map exact_product f.products)) (exact f.constant))
 
-  multiple_value : (f g : Form) → IsWellMade f → IsWellMade g → (multiple f g).is_narrow ≡ true → form_worth (multiple f g) ≡ f.constant *ℤ form_worth g
+  multiple_value : (f g : Form) → IsWellMade f → IsWellMade g → (multiple f g).is_narrow ≡ true → form_worth (multiple f g) ≡ exact f.constant *ℤ form_worth g
   multiple_value f g well_f well_g small =
       let both = and_parts f.is_narrow g.is_narrow (made_parts (f.is_narrow && g.is_narrow) (times f.constant g).products (times f.constant g).constant small) in
       times_value f.constant g well_g (well_f both.0).1 both.1
 
   -- a form without products is worth its constant
-  constant_value : (f : Form) → is_constant f ≡ true → form_worth f ≡ f.constant
-  constant_value f zeros = ap (λ x. x +ℤ f.constant) (zero_value I w f.products zeros) ∙ none f.constant
+  constant_value : (f : Form) → is_constant f ≡ true → form_worth f ≡ exact f.constant
+  constant_value f zeros = ap (λ x. x +ℤ exact f.constant) (zero_value I w f.products zeros) ∙ none (exact f.constant)
     where
       none : (x : ℤ) → pos 0 +ℤ x ≡ x
       none x = omega (arith, ints)
@@ -117,14 +119,14 @@ module _ (law : SameTermsAreEqual) (I : Interpretation) (w : Valuation) where
       sound_by t (plus f g) (form_at (Term-F.Add a.0 b.0) t refl) (
         distinct_adds law f.products g.products a.1.0,
         λ small.
-            let both = and_parts f.is_narrow g.is_narrow (made_parts (f.is_narrow && g.is_narrow) (add_products f.products g.products) (clipped (f.constant +ℤ g.constant)) small) in
+            let both = and_parts f.is_narrow g.is_narrow (made_parts (f.is_narrow && g.is_narrow) (add_products f.products g.products) (sum f.constant g.constant) small) in
             worth_at (Term-F.Add a.0 b.0) ∙ (λ i. a.1.1 both.0 i +ℤ b.1.1 both.1 i)
             ∙ sym (plus_value f g (form_well a.0) (form_well b.0) b.1.0 small),
       )
 
   -- the form of a negated term
   abbrev negated : Form → Form
-  negated g = times (negsuc 0) g
+  negated g = times minus_one g
 
   sound_difference : (a b : Known) → Sound (roll-Term (Term-F.Sub a.0 b.0))
   unfolding Sound FitsForm
@@ -135,12 +137,12 @@ module _ (law : SameTermsAreEqual) (I : Interpretation) (w : Valuation) where
       sound_by t (plus f (negated g)) (form_at (Term-F.Sub a.0 b.0) t refl) (
         distinct_adds law f.products (negated g).products a.1.0,
         λ small.
-            let both = and_parts f.is_narrow (negated g).is_narrow (made_parts (f.is_narrow && (negated g).is_narrow) (add_products f.products (negated g).products) (clipped (f.constant +ℤ (negated g).constant)) small) in
-            let inner = made_parts g.is_narrow (map (scaled (negsuc 0)) g.products) (clipped (negsuc 0 *ℤ g.constant)) both.1 in
+            let both = and_parts f.is_narrow (negated g).is_narrow (made_parts (f.is_narrow && (negated g).is_narrow) (add_products f.products (negated g).products) (sum f.constant (negated g).constant) small) in
+            let inner = made_parts g.is_narrow (map (scaled minus_one) g.products) (product minus_one g.constant) both.1 in
             worth_at (Term-F.Sub a.0 b.0) ∙ (λ i. a.1.1 both.0 i -ℤ b.1.1 inner i)
             ∙ negate (form_worth f) (form_worth g)
-            ∙ ap (λ x. form_worth f +ℤ x) (sym (times_value (negsuc 0) g (form_well b.0) refl inner))
-            ∙ sym (plus_value f (negated g) (form_well a.0) (made_well g.is_narrow (map (scaled (negsuc 0)) g.products) (clipped (negsuc 0 *ℤ g.constant))) (distinct_scaled (negsuc 0) g.products b.1.0) small),
+            ∙ ap (λ x. form_worth f +ℤ x) (sym (times_value minus_one g (form_well b.0) refl inner))
+            ∙ sym (plus_value f (negated g) (form_well a.0) (made_well g.is_narrow (map (scaled minus_one) g.products) (product minus_one g.constant)) (distinct_scaled minus_one g.products b.1.0) small),
       )
     where
       negate : (x y : ℤ) → x -ℤ y ≡ x +ℤ negsuc 0 *ℤ y
@@ -186,18 +188,18 @@ module _ (law : SameTermsAreEqual) (I : Interpretation) (w : Valuation) where
       let g : Form = multiple (negated k) q in (
         distinct_adds law f.products g.products a.1.0,
         λ small.
-            let both = and_parts f.is_narrow g.is_narrow (made_parts (f.is_narrow && g.is_narrow) (add_products f.products g.products) (clipped (f.constant +ℤ g.constant)) small) in
+            let both = and_parts f.is_narrow g.is_narrow (made_parts (f.is_narrow && g.is_narrow) (add_products f.products g.products) (sum f.constant g.constant) small) in
             let parts = and_parts (negated k).is_narrow q.is_narrow (made_parts ((negated k).is_narrow && q.is_narrow) (times (negated k).constant q).products (times (negated k).constant q).constant both.1) in
-            let inner = made_parts k.is_narrow [] (clipped (negsuc 0 *ℤ m)) parts.0 in
-            let narrow_m = (made_well true [] m inner).1 in
+            let inner = made_parts k.is_narrow [] (product minus_one (Exact m)) parts.0 in
+            let narrow_m = (made_well true [] (Exact m) inner).1 in
             let divisor : worth_of b.0 ≡ m = ap worth_of at ∙ worth_at (Term-F.Num m) in
             worth_at (Term-F.Mod a.0 b.0)
             ∙ ap (λ y. remainder (worth_of a.0) y) divisor
             ∙ above_zero n (int_rem_euclid (worth_of a.0) m) (pos 0)
             ∙ remainder_is (worth_of a.0) n
             ∙ (λ i. a.1.1 both.0 i +ℤ (negsuc 0 *ℤ m) *ℤ sym (worth_at (Term-F.Div a.0 b.0) ∙ ap (λ y. quotient (worth_of a.0) y) divisor ∙ above_zero n (int_div_euclid (worth_of a.0) m) (pos 0)) i)
-            ∙ (λ i. form_worth f +ℤ sym (clipped_times (negsuc 0) m refl narrow_m) i *ℤ sym (atom_value (roll-Term (Term-F.Div a.0 b.0))) i)
-            ∙ ap (λ x. form_worth f +ℤ x) (sym (multiple_value (negated k) q (made_well k.is_narrow [] (clipped (negsuc 0 *ℤ m))) (made_well true ((pos 1, roll-Term (Term-F.Div a.0 b.0)) ∷ []) (pos 0)) both.1))
+            ∙ (λ i. form_worth f +ℤ sym (exact_times minus_one (Exact m) refl narrow_m) i *ℤ sym (atom_value (roll-Term (Term-F.Div a.0 b.0))) i)
+            ∙ ap (λ x. form_worth f +ℤ x) (sym (multiple_value (negated k) q (made_well k.is_narrow [] (product minus_one (Exact m))) (made_well true ((Exact (pos 1), roll-Term (Term-F.Div a.0 b.0)) ∷ []) (Exact (pos 0))) both.1))
             ∙ sym (plus_value f g (form_well a.0) (made_well ((negated k).is_narrow && q.is_narrow) (times (negated k).constant q).products (times (negated k).constant q).constant) (tt, tt) small),
       )
 
@@ -214,31 +216,7 @@ module _ (law : SameTermsAreEqual) (I : Interpretation) (w : Valuation) where
 
   fits_over : (a b : Known) (x : Term-F Term) → b.0 ≡ roll-Term x → FitsForm (roll-Term (Term-F.Mod a.0 b.0)) (remainder_over (formed a.0) (formed b.0) x)
   fits_over a b (Term-F.Num n) at = fits_by a b n at
-  fits_over a b (Term-F.Truth c) at = fits_mod a b
-  fits_over a b Term-F.MinInt at = fits_mod a b
-  fits_over a b Term-F.MaxInt at = fits_mod a b
-  fits_over a b (Term-F.Var k) at = fits_mod a b
-  fits_over a b (Term-F.Add c d) at = fits_mod a b
-  fits_over a b (Term-F.Sub c d) at = fits_mod a b
-  fits_over a b (Term-F.Mul c d) at = fits_mod a b
-  fits_over a b (Term-F.Div c d) at = fits_mod a b
-  fits_over a b (Term-F.Mod c d) at = fits_mod a b
-  fits_over a b (Term-F.Len c) at = fits_mod a b
-  fits_over a b Term-F.Empty at = fits_mod a b
-  fits_over a b (Term-F.Single c) at = fits_mod a b
-  fits_over a b (Term-F.Cat c d) at = fits_mod a b
-  fits_over a b (Term-F.Reverse c) at = fits_mod a b
-  fits_over a b (Term-F.Part i j c) at = fits_mod a b
-  fits_over a b (Term-F.Tuple parts) at = fits_mod a b
-  fits_over a b (Term-F.Proj k c) at = fits_mod a b
-  fits_over a b (Term-F.Eq c d) at = fits_mod a b
-  fits_over a b (Term-F.Less c d) at = fits_mod a b
-  fits_over a b (Term-F.LessEq c d) at = fits_mod a b
-  fits_over a b (Term-F.Not c) at = fits_mod a b
-  fits_over a b (Term-F.And c d) at = fits_mod a b
-  fits_over a b (Term-F.Or c d) at = fits_mod a b
-  fits_over a b (Term-F.Implies c d) at = fits_mod a b
-  fits_over a b (Term-F.Initial k c) at = fits_mod a b
+  fits_over a b x at = fits_mod a b
 
   sound_remainder : (a b : Known) → Sound (roll-Term (Term-F.Mod a.0 b.0))
   sound_remainder a b =
@@ -250,33 +228,13 @@ module _ (law : SameTermsAreEqual) (I : Interpretation) (w : Valuation) where
 
   node_sound : (y : Term-F Known) → Sound (roll-Term (bare y))
   node_sound (Term-F.Num n) = sound_number n
-  node_sound (Term-F.Truth b) = sound_other (Term-F.Truth b) refl
-  node_sound Term-F.MinInt = sound_other Term-F.MinInt refl
-  node_sound Term-F.MaxInt = sound_other Term-F.MaxInt refl
-  node_sound (Term-F.Var k) = sound_other (Term-F.Var k) refl
   node_sound (Term-F.Add a b) = sound_sum a b
   node_sound (Term-F.Sub a b) = sound_difference a b
   node_sound (Term-F.Mul a b) = sound_product a b
-  node_sound (Term-F.Div a b) = sound_other (Term-F.Div a.0 b.0) refl
   node_sound (Term-F.Mod a b) = sound_remainder a b
-  node_sound (Term-F.Len a) = sound_other (Term-F.Len a.0) refl
-  node_sound Term-F.Empty = sound_other Term-F.Empty refl
-  node_sound (Term-F.Single a) = sound_other (Term-F.Single a.0) refl
-  node_sound (Term-F.Cat a b) = sound_other (Term-F.Cat a.0 b.0) refl
-  node_sound (Term-F.Reverse a) = sound_other (Term-F.Reverse a.0) refl
-  node_sound (Term-F.Part i j a) = sound_other (Term-F.Part i.0 j.0 a.0) refl
-  node_sound (Term-F.Tuple parts) = sound_other (Term-F.Tuple (map (λ (e : Known). e.0) parts)) refl
-  node_sound (Term-F.Proj k a) = sound_other (Term-F.Proj k a.0) refl
-  node_sound (Term-F.Eq a b) = sound_other (Term-F.Eq a.0 b.0) refl
-  node_sound (Term-F.Less a b) = sound_other (Term-F.Less a.0 b.0) refl
-  node_sound (Term-F.LessEq a b) = sound_other (Term-F.LessEq a.0 b.0) refl
-  node_sound (Term-F.Not a) = sound_other (Term-F.Not a.0) refl
-  node_sound (Term-F.And a b) = sound_other (Term-F.And a.0 b.0) refl
-  node_sound (Term-F.Or a b) = sound_other (Term-F.Or a.0 b.0) refl
-  node_sound (Term-F.Implies a b) = sound_other (Term-F.Implies a.0 b.0) refl
-  node_sound (Term-F.Initial k a) = sound_other (Term-F.Initial k a.0) refl
+  node_sound y = sound_other (bare y) refl
 
-  pub form_sound : (t : Term) → IsDistinct (formed t).1.products × ((formed t).1.is_narrow ≡ true → number (value I w t) ≡ sum_of_products I w (formed t).1.products +ℤ (formed t).1.constant)
+  pub form_sound : (t : Term) → IsDistinct (formed t).1.products × ((formed t).1.is_narrow ≡ true → number (value I w t) ≡ sum_of_products I w (map exact_product (formed t).1.products) +ℤ exact (formed t).1.constant)
   unfolding Sound
   form_sound = ind-Term Sound (λ x y is. subst (λ z. Sound (roll-Term z)) is (node_sound y))
 
@@ -288,14 +246,14 @@ pub forms_keep_values : SameTermsAreEqual → FormsKeepValues
 forms_keep_values law t products constant is I w =
     by_test (formed t).1.is_narrow refl is
   where
-    by_test : (b : Bool) → (formed t).1.is_narrow ≡ b → shown_if b (shown (formed t).1.products, (formed t).1.constant) ≡ Some (products, constant) →
+    by_test : (b : Bool) → (formed t).1.is_narrow ≡ b → shown_if b (shown (formed t).1.products, exact (formed t).1.constant) ≡ Some (products, constant) →
         number (value I w t) ≡ sum_of_products I w products +ℤ constant
     by_test true e same =
-        let left : List Product × ℤ = (shown (formed t).1.products, (formed t).1.constant) in
+        let left : List Product × ℤ = (shown (formed t).1.products, exact (formed t).1.constant) in
         let right : List Product × ℤ = (products, constant) in
         let pairs : left ≡ right = cc in
         (form_sound law I w t).1 e
-        ∙ ap (λ x. x +ℤ (formed t).1.constant) (sym (shown_value I w (formed t).1.products))
+        ∙ ap (λ x. x +ℤ exact (formed t).1.constant) (sym (shown_value I w (formed t).1.products))
         ∙ ap (λ (p : List Product × ℤ). sum_of_products I w p.0 +ℤ p.1) pairs
     by_test false e same = cc
 

@@ -10,7 +10,7 @@ use Rattle.math_terms.specs.declared.view.Binary.{Binary}
 use Rattle.math_terms.specs.declared.view.Unary.{Unary}
 use Rattle.math_terms.specs.declared.view.View.{View}
 use Rattle.math_terms.specs.Views.{binary_node, unary_node, node_of}
-use Rattle.num_theory.specs.Linear.{Formed, formed, form_step, rebuilt, atom_form, constant_form, plus, times, multiple, product_form, is_constant, remainder_by, remainder_over, remainder_form}
+use Rattle.num_theory.specs.Linear.{Formed, formed, form_step, rebuilt, atom_form, constant_form, minus_one, plus, times, multiple, product_form, is_constant, remainder_by, remainder_over, remainder_form}
 use Rattle.num_theory.proofs.Heads.{fold_at, map-map}
 
 Rebuilds : Term → Type 0
@@ -53,59 +53,15 @@ is_other x = true
 
 other_step : (x : Term-F Formed) → is_other x ≡ true → form_step x ≡ atom_form (rebuilt x)
 other_step (Term-F.Num n) h = cc
-other_step (Term-F.Truth b) h = refl
-other_step Term-F.MinInt h = refl
-other_step Term-F.MaxInt h = refl
-other_step (Term-F.Var k) h = refl
 other_step (Term-F.Add a b) h = cc
 other_step (Term-F.Sub a b) h = cc
 other_step (Term-F.Mul a b) h = cc
-other_step (Term-F.Div a b) h = refl
 other_step (Term-F.Mod a b) h = cc
-other_step (Term-F.Len a) h = refl
-other_step Term-F.Empty h = refl
-other_step (Term-F.Single a) h = refl
-other_step (Term-F.Cat a b) h = refl
-other_step (Term-F.Reverse a) h = refl
-other_step (Term-F.Part i j a) h = refl
-other_step (Term-F.Tuple parts) h = refl
-other_step (Term-F.Proj k a) h = refl
-other_step (Term-F.Eq a b) h = refl
-other_step (Term-F.Less a b) h = refl
-other_step (Term-F.LessEq a b) h = refl
-other_step (Term-F.Not a) h = refl
-other_step (Term-F.And a b) h = refl
-other_step (Term-F.Or a b) h = refl
-other_step (Term-F.Implies a b) h = refl
-other_step (Term-F.Initial k a) h = refl
+other_step x h = refl
 
 other_map : {A B : Type 0} (f : A → B) (x : Term-F A) → is_other (map-Term A B f x) ≡ is_other x
 other_map f (Term-F.Num n) = refl
-other_map f (Term-F.Truth b) = refl
-other_map f Term-F.MinInt = refl
-other_map f Term-F.MaxInt = refl
-other_map f (Term-F.Var k) = refl
-other_map f (Term-F.Add a b) = refl
-other_map f (Term-F.Sub a b) = refl
-other_map f (Term-F.Mul a b) = refl
-other_map f (Term-F.Div a b) = refl
-other_map f (Term-F.Mod a b) = refl
-other_map f (Term-F.Len a) = refl
-other_map f Term-F.Empty = refl
-other_map f (Term-F.Single a) = refl
-other_map f (Term-F.Cat a b) = refl
-other_map f (Term-F.Reverse a) = refl
-other_map f (Term-F.Part i j a) = refl
-other_map f (Term-F.Tuple parts) = refl
-other_map f (Term-F.Proj k a) = refl
-other_map f (Term-F.Eq a b) = refl
-other_map f (Term-F.Less a b) = refl
-other_map f (Term-F.LessEq a b) = refl
-other_map f (Term-F.Not a) = refl
-other_map f (Term-F.And a b) = refl
-other_map f (Term-F.Or a b) = refl
-other_map f (Term-F.Implies a b) = refl
-other_map f (Term-F.Initial k a) = refl
+other_map f x = refl
 
 pub form_other : (x : Term-F Term) (t : Term) → t ≡ roll-Term x → is_other x ≡ true → (formed t).1 ≡ atom_form t
 form_other x t is other =
@@ -115,38 +71,21 @@ form_other x t is other =
 
 other_one : {A : Type 0} (op : Unary) (a : A) → is_other (unary_node op a) ≡ true
 other_one Unary.Len a = refl
-other_one Unary.Single a = refl
-other_one Unary.Reverse a = refl
-other_one Unary.Not a = refl
+other_one op a = refl
 
 pub other_view : (v : View) → ((n : ℤ) → v ≡ View.Num n → ⊥) → ((op : Binary) (a b : Bor Term) → v ≡ View.Two op a b → ⊥) → is_other (node_of v) ≡ true
 other_view (View.Num n) no_number no_pair = absurd (no_number n refl)
-other_view (View.Truth b) no_number no_pair = refl
-other_view View.MinInt no_number no_pair = refl
-other_view View.MaxInt no_number no_pair = refl
-other_view (View.Var k) no_number no_pair = refl
-other_view View.Empty no_number no_pair = refl
 other_view (View.One op a) no_number no_pair = other_one op a.now
 other_view (View.Two op a b) no_number no_pair = absurd (no_pair op a b refl)
-other_view (View.Part i j a) no_number no_pair = refl
-other_view (View.Tuple parts) no_number no_pair = refl
-other_view (View.Proj k a) no_number no_pair = refl
-other_view (View.Initial k a) no_number no_pair = refl
+other_view v no_number no_pair = refl
 
 pub other_two : {A : Type 0} (op : Binary) (a b : A) → (op ≡ Binary.Add → ⊥) → (op ≡ Binary.Sub → ⊥) → (op ≡ Binary.Mul → ⊥) → (op ≡ Binary.Mod → ⊥) →
     is_other (binary_node op a b) ≡ true
 other_two Binary.Add a b no_sum no_difference no_product no_remainder = absurd (no_sum refl)
 other_two Binary.Sub a b no_sum no_difference no_product no_remainder = absurd (no_difference refl)
 other_two Binary.Mul a b no_sum no_difference no_product no_remainder = absurd (no_product refl)
-other_two Binary.Div a b no_sum no_difference no_product no_remainder = refl
 other_two Binary.Mod a b no_sum no_difference no_product no_remainder = absurd (no_remainder refl)
-other_two Binary.Cat a b no_sum no_difference no_product no_remainder = refl
-other_two Binary.Eq a b no_sum no_difference no_product no_remainder = refl
-other_two Binary.Less a b no_sum no_difference no_product no_remainder = refl
-other_two Binary.LessEq a b no_sum no_difference no_product no_remainder = refl
-other_two Binary.And a b no_sum no_difference no_product no_remainder = refl
-other_two Binary.Or a b no_sum no_difference no_product no_remainder = refl
-other_two Binary.Implies a b no_sum no_difference no_product no_remainder = refl
+other_two op a b no_sum no_difference no_product no_remainder = refl
 
 -- a product of forms that both have products is an atom
 pub product_atom : (a b t : Term) → t ≡ roll-Term (Term-F.Mul a b) → is_constant (formed a).1 ≡ false → is_constant (formed b).1 ≡ false →
@@ -168,13 +107,13 @@ remainder_low a b t (pos (suc n)) is low = absurd (omega (arith, ints))
 remainder_low a b t (negsuc n) is low = remainder_term a b t is
 
 pub remainder_above : (a b : Term) (n : ℕ) → b ≡ roll-Term (Term-F.Num (pos (suc n))) →
-    remainder_by (formed a) (formed b) (pos (suc n)) ≡ plus (formed a).1 (multiple (times (negsuc 0) (constant_form (pos (suc n)))) (atom_form (roll-Term (Term-F.Div a b))))
+    remainder_by (formed a) (formed b) (pos (suc n)) ≡ plus (formed a).1 (multiple (times minus_one (constant_form (pos (suc n)))) (atom_form (roll-Term (Term-F.Div a b))))
 remainder_above a b n is =
-    λ i. plus (formed a).1 (multiple (times (negsuc 0) (form_at (Term-F.Num (pos (suc n))) b is i)) (atom_form (roll-Term (Term-F.Div (formed_first a i) (formed_first b i)))))
+    λ i. plus (formed a).1 (multiple (times minus_one (form_at (Term-F.Num (pos (suc n))) b is i)) (atom_form (roll-Term (Term-F.Div (formed_first a i) (formed_first b i)))))
 
 -- a remainder by a number above 0
 pub remainder_high : (a b : Term) (n : ℤ) → b ≡ roll-Term (Term-F.Num n) → pos 0 <ℤ n →
-    remainder_by (formed a) (formed b) n ≡ plus (formed a).1 (multiple (times (negsuc 0) (constant_form n)) (atom_form (roll-Term (Term-F.Div a b))))
+    remainder_by (formed a) (formed b) n ≡ plus (formed a).1 (multiple (times minus_one (constant_form n)) (atom_form (roll-Term (Term-F.Div a b))))
 remainder_high a b (pos zero) is high = absurd (omega (arith, ints))
 remainder_high a b (pos (suc n)) is high = remainder_above a b n is
 remainder_high a b (negsuc n) is high = absurd (omega (arith, ints))
@@ -182,37 +121,17 @@ remainder_high a b (negsuc n) is high = absurd (omega (arith, ints))
 -- a remainder by what is no number
 remainder_over_other : (a b : Formed) (v : View) → ((n : ℤ) → v ≡ View.Num n → ⊥) → remainder_over a b (node_of v) ≡ atom_form (roll-Term (Term-F.Mod a.0 b.0))
 remainder_over_other a b (View.Num n) no_number = absurd (no_number n refl)
-remainder_over_other a b (View.Truth x) no_number = refl
-remainder_over_other a b View.MinInt no_number = refl
-remainder_over_other a b View.MaxInt no_number = refl
-remainder_over_other a b (View.Var k) no_number = refl
-remainder_over_other a b View.Empty no_number = refl
 remainder_over_other a b (View.One op x) no_number = by_one op
   where
     by_one : (op : Unary) → remainder_over a b (unary_node op x.now) ≡ atom_form (roll-Term (Term-F.Mod a.0 b.0))
     by_one Unary.Len = refl
-    by_one Unary.Single = refl
-    by_one Unary.Reverse = refl
-    by_one Unary.Not = refl
+    by_one op = refl
 remainder_over_other a b (View.Two op x y) no_number = by_two op
   where
     by_two : (op : Binary) → remainder_over a b (binary_node op x.now y.now) ≡ atom_form (roll-Term (Term-F.Mod a.0 b.0))
     by_two Binary.Add = refl
-    by_two Binary.Sub = refl
-    by_two Binary.Mul = refl
-    by_two Binary.Div = refl
-    by_two Binary.Mod = refl
-    by_two Binary.Cat = refl
-    by_two Binary.Eq = refl
-    by_two Binary.Less = refl
-    by_two Binary.LessEq = refl
-    by_two Binary.And = refl
-    by_two Binary.Or = refl
-    by_two Binary.Implies = refl
-remainder_over_other a b (View.Part i j x) no_number = refl
-remainder_over_other a b (View.Tuple parts) no_number = refl
-remainder_over_other a b (View.Proj k x) no_number = refl
-remainder_over_other a b (View.Initial k x) no_number = refl
+    by_two op = refl
+remainder_over_other a b v no_number = refl
 
 pub remainder_other : (a b t : Term) (v : View) → t ≡ roll-Term (Term-F.Mod a b) → b ≡ roll-Term (node_of v) → ((n : ℤ) → v ≡ View.Num n → ⊥) →
     remainder_form (formed a) (formed b) ≡ atom_form t

@@ -1,5 +1,6 @@
 -- Folds of terms by their heads.
-use Rattle.std.proofs.Common.{◌≡◌, ◌∙◌, ap, refl, List, [], ◌∷◌, map}
+use Rattle.std.proofs.Common.{◌≡◌, ◌∙◌, ap, refl}
+use Rattle.std.proofs.lemmas.Simd as maps
 use Rattle.math_terms.specs.declared.term.Term.{Term}
 use Rattle.math_terms.specs.declared.term.Term.TheOpen.{Term-F}
 use Rattle.math_terms.specs.declared.term.Term.TheViews.{roll-Term}
@@ -11,23 +12,11 @@ use Rattle.math_terms.specs.Views.{binary_node, unary_node}
 -- a map of a node with two children, and of one with one
 binary_map : {A B : Type 0} (f : A → B) (op : Binary) (a b : A) → map-Term A B f (binary_node op a b) ≡ binary_node op (f a) (f b)
 binary_map f Binary.Add a b = refl
-binary_map f Binary.Sub a b = refl
-binary_map f Binary.Mul a b = refl
-binary_map f Binary.Div a b = refl
-binary_map f Binary.Mod a b = refl
-binary_map f Binary.Cat a b = refl
-binary_map f Binary.Eq a b = refl
-binary_map f Binary.Less a b = refl
-binary_map f Binary.LessEq a b = refl
-binary_map f Binary.And a b = refl
-binary_map f Binary.Or a b = refl
-binary_map f Binary.Implies a b = refl
+binary_map f op a b = refl
 
 unary_map : {A B : Type 0} (f : A → B) (op : Unary) (a : A) → map-Term A B f (unary_node op a) ≡ unary_node op (f a)
 unary_map f Unary.Len a = refl
-unary_map f Unary.Single a = refl
-unary_map f Unary.Reverse a = refl
-unary_map f Unary.Not a = refl
+unary_map f op a = refl
 
 -- a fold of a term with this node at its head
 pub fold_at : {A : Type 0} (f : Term-F A → A) (x : Term-F Term) (t : Term) → t ≡ roll-Term x → fold-Term A f t ≡ f (map-Term Term A (fold-Term A f) x)
@@ -39,35 +28,7 @@ fold_at_two {A = A} f op a b t is = fold_at f (binary_node op a b) t is ∙ ap f
 pub fold_at_one : {A : Type 0} (f : Term-F A → A) (op : Unary) (a t : Term) → t ≡ roll-Term (unary_node op a) → fold-Term A f t ≡ f (unary_node op (fold-Term A f a))
 fold_at_one {A = A} f op a t is = fold_at f (unary_node op a) t is ∙ ap f (unary_map (fold-Term A f) op a)
 
-list_map-map : {X Y Z : Type 0} (f : X → Y) (g : Y → Z) (xs : List X) → map g (map f xs) ≡ map (λ x. g (f x)) xs
-list_map-map f g [] = refl
-list_map-map f g (x ∷ xs) = ap (λ ys. g (f x) ∷ ys) (list_map-map f g xs)
-
 -- two maps of a node one after the other
 pub map-map : {X Y Z : Type 0} (f : X → Y) (g : Y → Z) (x : Term-F X) → map-Term Y Z g (map-Term X Y f x) ≡ map-Term X Z (λ a. g (f a)) x
-map-map f g (Term-F.Num n) = refl
-map-map f g (Term-F.Truth b) = refl
-map-map f g Term-F.MinInt = refl
-map-map f g Term-F.MaxInt = refl
-map-map f g (Term-F.Var k) = refl
-map-map f g (Term-F.Add a b) = refl
-map-map f g (Term-F.Sub a b) = refl
-map-map f g (Term-F.Mul a b) = refl
-map-map f g (Term-F.Div a b) = refl
-map-map f g (Term-F.Mod a b) = refl
-map-map f g (Term-F.Len a) = refl
-map-map f g Term-F.Empty = refl
-map-map f g (Term-F.Single a) = refl
-map-map f g (Term-F.Cat a b) = refl
-map-map f g (Term-F.Reverse a) = refl
-map-map f g (Term-F.Part i j a) = refl
-map-map f g (Term-F.Tuple parts) = ap (λ ys. Term-F.Tuple ys) (list_map-map f g parts)
-map-map f g (Term-F.Proj k a) = refl
-map-map f g (Term-F.Eq a b) = refl
-map-map f g (Term-F.Less a b) = refl
-map-map f g (Term-F.LessEq a b) = refl
-map-map f g (Term-F.Not a) = refl
-map-map f g (Term-F.And a b) = refl
-map-map f g (Term-F.Or a b) = refl
-map-map f g (Term-F.Implies a b) = refl
-map-map f g (Term-F.Initial k a) = refl
+map-map f g (Term-F.Tuple parts) = ap (λ ys. Term-F.Tuple ys) (maps.map-map g f parts)
+map-map f g x = refl

@@ -1,15 +1,18 @@
 -- Integers: sums of products, and numbers that are small enough to be kept as they are.
 use Rattle.std.proofs.Common.{◌≡◌, ◌∙◌, ap, sym, refl, ℕ, zero, suc, ◌-◌, ◌/◌, ◌%◌, int_le, neg_ℤ, ◌+◌, ◌*◌, ◌<◌, ◌≤◌, ◌^◌, ltb, true, ℤ, pos, negsuc, ◌+ℤ◌, ◌*ℤ◌, unsigned_abs, arith}
 use Rattle.std.specs.Int.{int_div_euclid, int_rem_euclid, ◌∣◌}
-use Rattle.std.proofs.lemmas.Bool.{and_parts, ltb-true, le-leb}
+use Rattle.std.proofs.lemmas.Bool.{and_parts, ltb-true, le-leb, false≢true}
+use Rattle.std.proofs.lemmas.Bool.Decides.{Decides-int_eq}
 use Rattle.std.proofs.lemmas.Int.{ints, unsigned_abs-mul}
 use Rattle.std.proofs.lemmas.Nat.{mul-le, div-add-mod', div-mul-add}
 use Rattle.std.proofs.lemmas.Nat.Gcd.{mod-eq-zero_of_dvd}
 use Rattle.std.proofs.Math.IntN.{*ℤ_comm}
 use Rattle.std.proofs.Math.Nat.{mod-lt}
 use borrow.Author.Differences.{up, down, sum_is_lem, product_is}
-use Rattle.num_theory.specs.Lines.{narrow}
-use Rattle.num_theory.specs.Linear.{clipped}
+use Rattle.num_theory.specs.declared.number.Number.{Number}
+use Rattle.num_theory.specs.declared.number.Number.TheVariants.{Exact, Lost}
+use Rattle.num_theory.specs.Number.{exact, fits, is_narrow, is_zero, kept, product, sum}
+use Rattle.num_theory.specs.Rows.{narrow}
 
 -- an integer is what it is above 0 less what it is below, and a product multiplies these out
 pub times_sum : (a b c : ℤ) → (a +ℤ b) *ℤ c ≡ a *ℤ c +ℤ b *ℤ c
@@ -42,22 +45,34 @@ pub narrow_magnitude : (z : ℤ) → narrow z ≡ true → unsigned_abs z < 2 ^ 
 narrow_magnitude (pos n) h = omega (arith, ltb-true n 2147483648 h)
 narrow_magnitude (negsuc n) h = omega (arith, ltb-true n 2147483647 (and_parts (ltb n 2147483647) true h).0)
 
-clipped_within : (z : ℤ) → unsigned_abs z ≤ 2 ^ 62 → clipped z ≡ z
-clipped_within (pos n) h = rw (le-leb n 4611686018427387904 (omega arith)) refl
-clipped_within (negsuc n) h = rw (le-leb n 4611686018427387903 (omega arith)) refl
+pub fits_within : (z : ℤ) → unsigned_abs z ≤ 2 ^ 62 → fits z ≡ true
+fits_within (pos n) h = le-leb n 170141183460469231731687303715884105727 (omega arith)
+fits_within (negsuc n) h = rw (le-leb n 170141183460469231731687303715884105727 (omega arith)) refl
 
-pub clipped_sum : (a b : ℤ) → narrow a ≡ true → narrow b ≡ true → clipped (a +ℤ b) ≡ a +ℤ b
-clipped_sum a b ha hb =
+kept_within : (z : ℤ) → unsigned_abs z ≤ 2 ^ 62 → exact (kept z) ≡ z
+kept_within z h = rw (fits_within z h) refl
+
+-- a sum and a product of narrow numbers
+pub exact_sum : (a b : Number) → is_narrow a ≡ true → is_narrow b ≡ true → exact (sum a b) ≡ exact a +ℤ exact b
+exact_sum Lost b ha hb = absurd (false≢true ha)
+exact_sum (Exact a) Lost ha hb = absurd (false≢true hb)
+exact_sum (Exact a) (Exact b) ha hb =
     let ma = narrow_magnitude a ha in
     let mb = narrow_magnitude b hb in
-    clipped_within (a +ℤ b) (omega (arith, ints))
+    kept_within (a +ℤ b) (omega (arith, ints))
 
-pub clipped_times : (a b : ℤ) → narrow a ≡ true → narrow b ≡ true → clipped (a *ℤ b) ≡ a *ℤ b
-clipped_times a b ha hb =
+pub exact_times : (a b : Number) → is_narrow a ≡ true → is_narrow b ≡ true → exact (product a b) ≡ exact a *ℤ exact b
+exact_times Lost b ha hb = absurd (false≢true ha)
+exact_times (Exact a) Lost ha hb = absurd (false≢true hb)
+exact_times (Exact a) (Exact b) ha hb =
     let ma = narrow_magnitude a ha in
     let mb = narrow_magnitude b hb in
     let bound : unsigned_abs a * unsigned_abs b ≤ 2 ^ 31 * 2 ^ 31 = mul-le (unsigned_abs a) (unsigned_abs b) (2 ^ 31) (2 ^ 31) (omega arith) (omega arith) in
-    clipped_within (a *ℤ b) (rw unsigned_abs-mul (omega (arith, bound)))
+    kept_within (a *ℤ b) (rw unsigned_abs-mul (omega (arith, bound)))
+
+pub zero_exact : (a : Number) → is_zero a ≡ true → exact a ≡ pos 0
+zero_exact (Exact a) h = (Decides-int_eq a (pos 0)).0 h
+zero_exact Lost h = refl
 
 negated_number : (n : ℕ) → negsuc 0 *ℤ pos (suc n) ≡ negsuc n
 negated_number n =

@@ -16,4 +16,5 @@ pub mod Columns
 pub mod Named
 pub mod RowMeaning
 pub mod Refuting
+pub mod Fitting
 pub mod Soundness

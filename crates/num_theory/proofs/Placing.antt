@@ -6,7 +6,8 @@ use Rattle.std.proofs.lemmas.List.{map-append, take-map, drop-map, take-append-d
 use Rattle.std.proofs.lemmas.List.Folds.{list_all-append}
 use Rattle.std.proofs.Math.Seq.{take-append_seam, drop-append_seam}
 use Rattle.std.proofs.lemmas.List.Sums.{prefix_len-le-length}
-use Rattle.num_theory.specs.Linear.{Product, insert_product, is_zero, in_text_order, shown, text_before}
+use Rattle.num_theory.specs.Number.{is_zero}
+use Rattle.num_theory.specs.Linear.{Product, RawProduct, exact_product, insert_product, in_text_order, shown, text_before}
 use Rattle.num_theory.specs.Making.{text_of_product}
 
 -- where the first element is that passes, if one does
@@ -66,5 +67,7 @@ last_passes p xs ys x n all last =
     let parts = and_parts (list_all p ys) (p x && true) (sym (list_all-append p ys (x ∷ [])) ∙ ap (list_all p) (sym last) ∙ front.0) in
     (and_parts (p x) true parts.1).0
 
-pub shown-cons : (p : Product) (ps : List Product) → shown (p ∷ ps) ≡ (if is_zero p.0 then shown ps else insert_product p (shown ps))
-shown-cons p ps = elim (is_zero p.0) as (λ b. (in_text_order (cond (not b) (p ∷ filter (λ q. not (is_zero q.0)) ps) (filter (λ q. not (is_zero q.0)) ps))) ≡ (if b then shown ps else insert_product p (shown ps))) [ true ↦ refl | false ↦ refl ]
+pub shown-cons : (p : RawProduct) (ps : List RawProduct) → shown (p ∷ ps) ≡ (if is_zero p.0 then shown ps else insert_product (exact_product p) (shown ps))
+shown-cons p ps =
+    elim (is_zero p.0) as (λ b. in_text_order (map exact_product (cond (not b) (p ∷ filter (λ q. not (is_zero q.0)) ps) (filter (λ q. not (is_zero q.0)) ps))) ≡ (if b then shown ps else insert_product (exact_product p) (shown ps)))
+    [ true ↦ refl | false ↦ refl ]

@@ -22,6 +22,7 @@ use Rattle.math_terms.specs.Sorts.{is_z}
 use Rattle.math_terms.specs.Values.{Val, entries, number, truth, quotient}
 use Rattle.num_theory.specs.Gathering.{no_rows, with_sums}
 use Rattle.num_theory.specs.Laws.{RowsAreTrue, RowsFollow, SumHolds, sum_of_products, worth}
+use Rattle.num_theory.specs.Number.{exact}
 use Rattle.num_theory.specs.Linear.{Product, formed, linear_of, shown}
 use Rattle.num_theory.specs.Lines.{narrow, row_holds}
 use Rattle.num_theory.specs.Naming.{columns, find_rows}
@@ -119,8 +120,8 @@ module _ (law : SameTermsAreEqual) where
             after : (x y z : ℤ) → x +ℤ (y +ℤ z) ≡ (x +ℤ y) +ℤ z
             after x y z = omega (arith, ints)
 
-            products_of : (b : Bool) → shown_if b (shown (formed t).1.products, (formed t).1.constant) ≡ Some f → shown (formed t).1.products ≡ f.0
-            products_of true e = let left : List Product × ℤ = (shown (formed t).1.products, (formed t).1.constant) in
+            products_of : (b : Bool) → shown_if b (shown (formed t).1.products, exact (formed t).1.constant) ≡ Some f → shown (formed t).1.products ≡ f.0
+            products_of true e = let left : List Product × ℤ = (shown (formed t).1.products, exact (formed t).1.constant) in
                 let pairs : left ≡ f = cc in ap (λ (p : List Product × ℤ). p.0) pairs
             products_of false e = cc
 
@@ -145,32 +146,10 @@ module _ (law : SameTermsAreEqual) where
         ]
 
     true_rows_at : (vars : List Sort) (k : ℕ) (x : Term-F Term) → holds I w (roll-Term x) ≡ true → AllByRecursion IsTrueSum (sums_at vars k x)
-    true_rows_at vars k (Term-F.Num n) h = tt
-    true_rows_at vars k (Term-F.Truth b) h = tt
-    true_rows_at vars k Term-F.MinInt h = tt
-    true_rows_at vars k Term-F.MaxInt h = tt
-    true_rows_at vars k (Term-F.Var j) h = tt
-    true_rows_at vars k (Term-F.Add a b) h = tt
-    true_rows_at vars k (Term-F.Sub a b) h = tt
-    true_rows_at vars k (Term-F.Mul a b) h = tt
-    true_rows_at vars k (Term-F.Div a b) h = tt
-    true_rows_at vars k (Term-F.Mod a b) h = tt
-    true_rows_at vars k (Term-F.Len a) h = tt
-    true_rows_at vars k Term-F.Empty h = tt
-    true_rows_at vars k (Term-F.Single a) h = tt
-    true_rows_at vars k (Term-F.Cat a b) h = tt
-    true_rows_at vars k (Term-F.Reverse a) h = tt
-    true_rows_at vars k (Term-F.Part i j a) h = tt
-    true_rows_at vars k (Term-F.Tuple parts) h = tt
-    true_rows_at vars k (Term-F.Proj j a) h = tt
     true_rows_at vars k (Term-F.Eq a b) h = true_equation vars k a b (ap number ((equality (value I w a) (value I w b)).0 (sym (holds_at (Term-F.Eq a b)) ∙ h)))
     true_rows_at vars k (Term-F.Less a b) h = true_difference (Hyp k) (negsuc 0) a b (lt_difference (worth_of a) (worth_of b) (sym (holds_at (Term-F.Less a b)) ∙ h))
     true_rows_at vars k (Term-F.LessEq a b) h = true_difference (Hyp k) (pos 0) a b (le_difference (worth_of a) (worth_of b) (sym (holds_at (Term-F.LessEq a b)) ∙ h))
-    true_rows_at vars k (Term-F.Not a) h = tt
-    true_rows_at vars k (Term-F.And a b) h = tt
-    true_rows_at vars k (Term-F.Or a b) h = tt
-    true_rows_at vars k (Term-F.Implies a b) h = tt
-    true_rows_at vars k (Term-F.Initial j a) h = tt
+    true_rows_at vars k x h = tt
 
     true_rows : (vars : List Sort) (k : ℕ) (f : Term) → holds I w f ≡ true → AllByRecursion IsTrueSum (sums_of vars k f)
     true_rows vars k f h = true_rows_at vars k (out-Term f) (ap (holds I w) (roll-out-Term f) ∙ h)
@@ -241,59 +220,12 @@ module _ (law : SameTermsAreEqual) where
 
     true_over : (t d : Term) (x : Term-F Term) → d ≡ roll-Term x → AllByRecursion IsTrueFact (facts_over (roll-Term (Term-F.Div t d)) t x)
     true_over t d (Term-F.Num n) is = true_by t d n is
-    true_over t d (Term-F.Truth b) is = tt
-    true_over t d Term-F.MinInt is = tt
-    true_over t d Term-F.MaxInt is = tt
-    true_over t d (Term-F.Var k) is = tt
-    true_over t d (Term-F.Add a b) is = tt
-    true_over t d (Term-F.Sub a b) is = tt
-    true_over t d (Term-F.Mul a b) is = tt
-    true_over t d (Term-F.Div a b) is = tt
-    true_over t d (Term-F.Mod a b) is = tt
-    true_over t d (Term-F.Len a) is = tt
-    true_over t d Term-F.Empty is = tt
-    true_over t d (Term-F.Single a) is = tt
-    true_over t d (Term-F.Cat a b) is = tt
-    true_over t d (Term-F.Reverse a) is = tt
-    true_over t d (Term-F.Part i j a) is = tt
-    true_over t d (Term-F.Tuple parts) is = tt
-    true_over t d (Term-F.Proj k a) is = tt
-    true_over t d (Term-F.Eq a b) is = tt
-    true_over t d (Term-F.Less a b) is = tt
-    true_over t d (Term-F.LessEq a b) is = tt
-    true_over t d (Term-F.Not a) is = tt
-    true_over t d (Term-F.And a b) is = tt
-    true_over t d (Term-F.Or a b) is = tt
-    true_over t d (Term-F.Implies a b) is = tt
-    true_over t d (Term-F.Initial k a) is = tt
+    true_over t d x is = tt
 
     true_at : (x : Term-F Term) → AllByRecursion IsTrueFact (facts_at (roll-Term x) x)
-    true_at (Term-F.Num n) = tt
-    true_at (Term-F.Truth b) = tt
-    true_at Term-F.MinInt = tt
-    true_at Term-F.MaxInt = tt
-    true_at (Term-F.Var k) = tt
-    true_at (Term-F.Add a b) = tt
-    true_at (Term-F.Sub a b) = tt
-    true_at (Term-F.Mul a b) = tt
     true_at (Term-F.Div a b) = true_over a b (out-Term b) (sym (roll-out-Term b))
-    true_at (Term-F.Mod a b) = tt
     true_at (Term-F.Len a) = true_length a
-    true_at Term-F.Empty = tt
-    true_at (Term-F.Single a) = tt
-    true_at (Term-F.Cat a b) = tt
-    true_at (Term-F.Reverse a) = tt
-    true_at (Term-F.Part i j a) = tt
-    true_at (Term-F.Tuple parts) = tt
-    true_at (Term-F.Proj k a) = tt
-    true_at (Term-F.Eq a b) = tt
-    true_at (Term-F.Less a b) = tt
-    true_at (Term-F.LessEq a b) = tt
-    true_at (Term-F.Not a) = tt
-    true_at (Term-F.And a b) = tt
-    true_at (Term-F.Or a b) = tt
-    true_at (Term-F.Implies a b) = tt
-    true_at (Term-F.Initial k a) = tt
+    true_at x = tt
 
     true_facts : (atom : Term) → AllByRecursion IsTrueFact (facts_of atom)
     true_facts atom = subst (λ t. AllByRecursion IsTrueFact (facts_at t (out-Term atom))) (roll-out-Term atom) (true_at (out-Term atom))

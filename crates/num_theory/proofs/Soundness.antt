@@ -58,32 +58,9 @@ module _ (law : SameTermsAreEqual) (equality : EqualityIsSameness) (I : Interpre
   alone x h = and_from (holds I w (roll-Term x)) true (holds_at law equality I w x ∙ h) refl
 
   negated_at : (t : Term) (x : Term-F Term) → out-Term t ≡ x → holds I w (roll-Term x) ≡ false → hold (negated_goal t) ≡ true
-  negated_at t (Term-F.Num n) is h = rw is refl
-  negated_at t (Term-F.Truth b) is h = rw is refl
-  negated_at t Term-F.MinInt is h = rw is refl
-  negated_at t Term-F.MaxInt is h = rw is refl
-  negated_at t (Term-F.Var j) is h = rw is refl
-  negated_at t (Term-F.Add a b) is h = rw is refl
-  negated_at t (Term-F.Sub a b) is h = rw is refl
-  negated_at t (Term-F.Mul a b) is h = rw is refl
-  negated_at t (Term-F.Div a b) is h = rw is refl
-  negated_at t (Term-F.Mod a b) is h = rw is refl
-  negated_at t (Term-F.Len a) is h = rw is refl
-  negated_at t Term-F.Empty is h = rw is refl
-  negated_at t (Term-F.Single a) is h = rw is refl
-  negated_at t (Term-F.Cat a b) is h = rw is refl
-  negated_at t (Term-F.Reverse a) is h = rw is refl
-  negated_at t (Term-F.Part i j a) is h = rw is refl
-  negated_at t (Term-F.Tuple parts) is h = rw is refl
-  negated_at t (Term-F.Proj j a) is h = rw is refl
-  negated_at t (Term-F.Eq a b) is h = rw is refl
   negated_at t (Term-F.Less a b) is h = rw is (alone (Term-F.LessEq b a) (not_less (number (value I w a)) (number (value I w b)) (sym (holds_at law equality I w (Term-F.Less a b)) ∙ h)))
   negated_at t (Term-F.LessEq a b) is h = rw is (alone (Term-F.Less b a) (not_less_eq (number (value I w a)) (number (value I w b)) (sym (holds_at law equality I w (Term-F.LessEq a b)) ∙ h)))
-  negated_at t (Term-F.Not a) is h = rw is refl
-  negated_at t (Term-F.And a b) is h = rw is refl
-  negated_at t (Term-F.Or a b) is h = rw is refl
-  negated_at t (Term-F.Implies a b) is h = rw is refl
-  negated_at t (Term-F.Initial j a) is h = rw is refl
+  negated_at t x is h = rw is refl
 
   negated_holds : (goal : Term) → holds I w goal ≡ false → hold (negated_goal goal) ≡ true
   negated_holds goal h = negated_at goal (out-Term goal) refl (ap (holds I w) (roll-out-Term goal) ∙ h)

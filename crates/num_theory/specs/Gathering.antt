@@ -1,18 +1,13 @@
 -- Tables as the code has them while it makes them.
-use Rattle.std.specs.Prelude.{◌+◌, ◌≤◌, List, [], ◌∷◌, ◌++◌, length, map, Option, Some, None, Result, MatchResult, ◌≡◌}
+use Rattle.std.specs.Prelude.{◌+◌, List, [], ◌∷◌, ◌++◌, map, Result, MatchResult, ◌≡◌}
 use Rattle.num_theory.specs.declared.gathering.Gathering.{Gathering}
 use Rattle.num_theory.specs.declared.gathering.RowSum.{RowSum}
 use Rattle.num_theory.specs.declared.table.RowError.{RowError}
 use Rattle.math_terms.specs.declared.term.Term.{Term}
-use Rattle.num_theory.specs.Table.{Gathered, IsRowRefusal, Sum, atoms_of, sums_of_fact}
+use Rattle.num_theory.specs.Table.{Gathered, IsFew, IsRowRefusal, Sum, atoms_of, sums_of_fact}
 
 abbrev pub sum_of : RowSum → Sum
 sum_of s = record { name = s.name; products = s.products; constant = s.constant }
-
--- a row that there may be
-abbrev pub sums_shown : Option RowSum → List Sum
-sums_shown None = []
-sums_shown (Some s) = sum_of s ∷ []
 
 abbrev pub gathered_of : Gathering → Gathered
 gathered_of g = record { atoms = g.atoms.items; sums = map sum_of g.sums.items; facts = g.facts }
@@ -31,9 +26,6 @@ with_fact g fact = record (with_sums g (sums_of_fact (g.facts + 1) fact)) { fact
 abbrev pub with_each_fact : Gathered → List Term → Gathered
 with_each_fact g [] = g
 with_each_fact g (fact ∷ facts) = with_each_fact (with_fact g fact) facts
-
-abbrev pub IsFew : Gathered → Type 0
-IsFew g = (length g.atoms ≤ 63) × (length g.sums ≤ 256)
 
 -- What is answered where a table is to become this one: it has, and there are not too many atoms and rows, or there
 -- is a cause for none.

@@ -11,7 +11,7 @@ use Rattle.math_terms.specs.Descriptors.{Interpretation, holds, value}
 use Rattle.num_theory.specs.Lines.{refutes, row_holds}
 use Rattle.num_theory.specs.Linear.{Product, linear_of}
 use Rattle.num_theory.specs.Naming.{linear_test}
-use Rattle.num_theory.specs.Table.{Sum, gathered, num, rows_of}
+use Rattle.num_theory.specs.Table.{IsFew, IsTable, Sum, gathered, num, rows_of, table_of}
 
 -- the sum of coefficients times the numbers of their atoms
 abbrev pub sum_of_products : Interpretation → Valuation → List Product → ℤ
@@ -40,6 +40,10 @@ RowsAreTrue formulas atoms rows =
 abbrev pub RowsFollow : Type 0
 RowsFollow =
     (most : ℕ) (vars : List Sort) (formulas : List Term) → RowsAreTrue formulas (gathered most vars formulas).atoms (rows_of (gathered most vars formulas))
+
+-- Where formulas make few atoms and rows, these are a table that can be refuted.
+abbrev pub RowsFit : Type 0
+RowsFit = (most : ℕ) (vars : List Sort) (formulas : List Term) → IsFew (gathered most vars formulas) → IsTable (table_of (gathered most vars formulas))
 
 -- Rows of one length that lines refute are not all true, whatever the atoms are worth.
 abbrev pub RefutedRowsClash : Type 0

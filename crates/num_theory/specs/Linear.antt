@@ -1,68 +1,68 @@
 -- The linear form of a term: a sum of atoms with coefficients, and a constant.
-use Rattle.std.specs.Prelude.{ℕ, suc, ltb, ◌==◌, ℤ, pos, negsuc, ◌+ℤ◌, ◌*ℤ◌, int_le, Bool, true, not, ◌&&◌, ◌||◌, List, [], ◌∷◌, map, Option, Some, None, if◌then◌else◌}
-use Rattle.std.specs.Ordering.{int_eq}
+use Rattle.std.specs.Prelude.{ℕ, suc, ltb, ◌==◌, ℤ, pos, negsuc, Bool, true, not, ◌&&◌, ◌||◌, List, [], ◌∷◌, map, Option, Some, None, if◌then◌else◌}
 use Rattle.std.specs.List.{list_all, filter}
 use Rattle.math_terms.specs.declared.term.Term.{Term}
 use Rattle.math_terms.specs.declared.term.Term.TheOpen.{Term-F}
 use Rattle.math_terms.specs.declared.term.Term.TheViews.{roll-Term, out-Term}
 use Rattle.math_terms.specs.declared.term.Term.TheFolds.{fold-Term, map-Term}
 use Rattle.math_terms.specs.Heads.{same_term}
-use Rattle.num_theory.specs.Lines.{narrow}
+use Rattle.num_theory.specs.declared.number.Number.{Number}
+use Rattle.num_theory.specs.declared.number.Number.TheVariants.{Exact}
+use Rattle.num_theory.specs.Number.{exact, is_narrow, is_zero, product, sum}
 use Rattle.num_theory.specs.Texts.{text}
 
 -- a coefficient and its atom
 abbrev pub Product : Type 0
 Product = ℤ × Term
 
+-- the same while forms are made, when the coefficient may be lost
+abbrev pub RawProduct : Type 0
+RawProduct = Number × Term
+
 -- A form: its products in the order in which their atoms first occur, those with coefficient 0 among them, its constant,
 -- and whether its numbers, and those of each form from which it is made, have magnitudes below 2 ^ 31.
 pub record Form : Type 0 where
-  pub products : List Product
-  pub constant : ℤ
+  pub products : List RawProduct
+  pub constant : Number
   pub is_narrow : Bool
 
--- Magnitudes above 2 ^ 62 are not told apart: what matters of them is that they are not narrow and not 0.
-abbrev pub clipped : ℤ → ℤ
-clipped z =
-    if int_le (negsuc 4611686018427387903) z && int_le z (pos 4611686018427387904) then z else pos 4611686018427387904
-
-abbrev pub narrow_products : List Product → Bool
-narrow_products ps = list_all (λ p. narrow p.0) ps
+abbrev pub narrow_products : List RawProduct → Bool
+narrow_products ps = list_all (λ p. is_narrow p.0) ps
 
 -- a form with these numbers, of which the forms that it is made from are narrow or not
-abbrev pub made : Bool → List Product → ℤ → Form
+abbrev pub made : Bool → List RawProduct → Number → Form
 made parts products constant =
-    record { products = products; constant = constant; is_narrow = parts && narrow_products products && narrow constant }
+    record { products = products; constant = constant; is_narrow = parts && narrow_products products && is_narrow constant }
 
 abbrev pub constant_form : ℤ → Form
-constant_form n = made true [] n
+constant_form n = made true [] (Exact n)
 
 abbrev pub atom_form : Term → Form
-atom_form t = made true ((pos 1, t) ∷ []) (pos 0)
+atom_form t = made true ((Exact (pos 1), t) ∷ []) (Exact (pos 0))
 
 -- a product is added to the one of the same atom, or else comes last
-abbrev pub add_product : Product → List Product → List Product
+abbrev pub add_product : RawProduct → List RawProduct → List RawProduct
 add_product p [] = p ∷ []
-add_product p (q ∷ qs) = if same_term p.1 q.1 then (clipped (q.0 +ℤ p.0), q.1) ∷ qs else q ∷ add_product p qs
+add_product p (q ∷ qs) = if same_term p.1 q.1 then (sum q.0 p.0, q.1) ∷ qs else q ∷ add_product p qs
 
-abbrev pub add_products : List Product → List Product → List Product
+abbrev pub add_products : List RawProduct → List RawProduct → List RawProduct
 add_products ps [] = ps
 add_products ps (q ∷ qs) = add_products (add_product q ps) qs
 
 abbrev pub plus : Form → Form → Form
-plus f g = made (f.is_narrow && g.is_narrow) (add_products f.products g.products) (clipped (f.constant +ℤ g.constant))
+plus f g = made (f.is_narrow && g.is_narrow) (add_products f.products g.products) (sum f.constant g.constant)
 
-abbrev pub scaled : ℤ → Product → Product
-scaled k p = (clipped (k *ℤ p.0), p.1)
+abbrev pub scaled : Number → RawProduct → RawProduct
+scaled k p = (product k p.0, p.1)
 
-abbrev pub times : ℤ → Form → Form
-times k f = made f.is_narrow (map (scaled k) f.products) (clipped (k *ℤ f.constant))
+abbrev pub times : Number → Form → Form
+times k f = made f.is_narrow (map (scaled k) f.products) (product k f.constant)
 
-abbrev pub is_zero : ℤ → Bool
-is_zero z = int_eq z (pos 0)
+abbrev pub minus_one : Number
+minus_one = Exact (negsuc 0)
 
 -- no product with a coefficient other than 0
-abbrev pub are_zero : List Product → Bool
+abbrev pub are_zero : List RawProduct → Bool
 are_zero ps = list_all (λ p. is_zero p.0) ps
 
 abbrev pub is_constant : Form → Bool
@@ -85,7 +85,7 @@ product_form a b =
 
 -- t mod n, for a literal n > 0, is t - n * (t div n).
 abbrev pub remainder_by : Formed → Formed → ℤ → Form
-remainder_by a b (pos (suc n)) = plus a.1 (multiple (times (negsuc 0) b.1) (atom_form (roll-Term (Term-F.Div a.0 b.0))))
+remainder_by a b (pos (suc n)) = plus a.1 (multiple (times minus_one b.1) (atom_form (roll-Term (Term-F.Div a.0 b.0))))
 remainder_by a b n = atom_form (roll-Term (Term-F.Mod a.0 b.0))
 
 abbrev pub remainder_over : Formed → Formed → Term-F Term → Form
@@ -102,7 +102,7 @@ rebuilt x = roll-Term (map-Term Formed Term (λ p. p.0) x)
 abbrev pub form_step : Term-F Formed → Form
 form_step (Term-F.Num n) = constant_form n
 form_step (Term-F.Add a b) = plus a.1 b.1
-form_step (Term-F.Sub a b) = plus a.1 (times (negsuc 0) b.1)
+form_step (Term-F.Sub a b) = plus a.1 (times minus_one b.1)
 form_step (Term-F.Mul a b) = product_form a b
 form_step (Term-F.Mod a b) = remainder_form a b
 form_step x = atom_form (rebuilt x)
@@ -125,13 +125,16 @@ abbrev pub in_text_order : List Product → List Product
 in_text_order [] = []
 in_text_order (p ∷ ps) = insert_product p (in_text_order ps)
 
+abbrev pub exact_product : RawProduct → Product
+exact_product p = (exact p.0, p.1)
+
 -- without products of coefficient 0, in the order of the texts
-abbrev pub shown : List Product → List Product
-shown ps = in_text_order (filter (λ p. not (is_zero p.0)) ps)
+abbrev pub shown : List RawProduct → List Product
+shown ps = in_text_order (map exact_product (filter (λ p. not (is_zero p.0)) ps))
 
 -- products and constant, where the form is narrow
 abbrev pub shown_form : Form → Option (List Product × ℤ)
-shown_form f = if f.is_narrow then Some (shown f.products, f.constant) else None
+shown_form f = if f.is_narrow then Some (shown f.products, exact f.constant) else None
 
 -- the linear form of a term, where there is one
 abbrev pub linear_of : Term → Option (List Product × ℤ)

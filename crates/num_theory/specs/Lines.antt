@@ -4,13 +4,7 @@ use Rattle.std.specs.Ordering.{int_eq}
 use Rattle.std.specs.List.{list_all}
 use Rattle.math_terms.specs.declared.name.Line.{Line}
 use Rattle.num_theory.specs.Rows.{combined, coefficients, reduced}
-
--- a magnitude below 2 ^ 31
-abbrev pub narrow : ℤ → Bool
-narrow z = int_lt (negsuc 2147483647) z && int_lt z (pos 2147483648)
-
-abbrev pub all_narrow : List ℤ → Bool
-all_narrow zs = list_all narrow zs
+pub use Rattle.num_theory.specs.Rows.{all_narrow, narrow}
 
 -- a row by its number, counted from 1
 abbrev pub numbered : List (List ℤ) → ℕ → Option (List ℤ)

@@ -2,7 +2,7 @@
 use Rattle.std.specs.Prelude.{◌≡◌, ℕ, ℤ, true, List, Option, Some, None}
 use Rattle.num_theory.specs.declared.forms.RawForm.{RawForm}
 use Rattle.num_theory.specs.declared.table.LinearForm.{LinearForm}
-use Rattle.num_theory.specs.Lines.{narrow}
+use Rattle.num_theory.specs.Number.{is_narrow}
 use Rattle.num_theory.specs.Linear.{Form, Product, narrow_products}
 use Rattle.num_theory.specs.Texts.{text}
 
@@ -11,7 +11,7 @@ form_of f = record { products = f.products.items; constant = f.constant; is_narr
 
 -- a narrow form has narrow numbers
 abbrev pub IsWellMade : Form → Type 0
-IsWellMade f = f.is_narrow ≡ true → (narrow_products f.products ≡ true) × (narrow f.constant ≡ true)
+IsWellMade f = f.is_narrow ≡ true → (narrow_products f.products ≡ true) × (is_narrow f.constant ≡ true)
 
 abbrev pub text_of_product : Product → List ℕ
 text_of_product p = text p.1

@@ -1,8 +1,8 @@
 -- Rows of numbers. The last number of a row is its constant, those before it are its coefficients:
 -- a row says that the sum of coefficients times atoms, plus the constant, is at least 0.
-use Rattle.std.specs.Prelude.{ℕ, zero, suc, ◌-◌, ◌%◌, ◌^◌, ◌<◌, ◌==◌, max, cond, List, [], ◌∷◌, length, take, map, fold, ℤ, pos, ◌+ℤ◌, ◌*ℤ◌, unsigned_abs}
+use Rattle.std.specs.Prelude.{ℕ, zero, suc, ◌-◌, ◌%◌, ◌==◌, max, cond, Bool, ◌&&◌, List, [], ◌∷◌, length, take, map, fold, ℤ, pos, negsuc, ◌+ℤ◌, ◌*ℤ◌, int_lt, unsigned_abs}
 use Rattle.std.specs.Int.{int_div_euclid, ◌∣◌}
-use Rattle.std.specs.List.{AllByRecursion}
+use Rattle.std.specs.List.{AllByRecursion, list_all}
 
 -- p times x plus q times y
 abbrev pub combined_number : ℕ → ℤ → ℕ → ℤ → ℤ
@@ -15,11 +15,11 @@ combined p (x ∷ xs) q [] = []
 combined p (x ∷ xs) q (y ∷ ys) = combined_number p x q y ∷ combined p xs q ys
 
 -- the magnitude is below 2 ^ 31
-abbrev pub IsNarrow : ℤ → Type 0
-IsNarrow z = unsigned_abs z < 2 ^ 31
+abbrev pub narrow : ℤ → Bool
+narrow z = int_lt (negsuc 2147483647) z && int_lt z (pos 2147483648)
 
-abbrev pub AllNarrow : List ℤ → Type 0
-AllNarrow zs = AllByRecursion IsNarrow zs
+abbrev pub all_narrow : List ℤ → Bool
+all_narrow zs = list_all narrow zs
 
 -- the greatest magnitude, 0 for no numbers
 abbrev pub greatest : List ℤ → ℕ

@@ -1,10 +1,11 @@
 -- The first rows of linear arithmetic: those of formulas, and those of the facts on their atoms.
-use Rattle.std.specs.Prelude.{ℕ, zero, suc, ◌+◌, ◌<◌, ◌⊎◌, ℤ, pos, negsuc, ◌+ℤ◌, ◌&&◌, List, [], ◌∷◌, ◌++◌, length, map, Option, Some, None, slice_get, if◌then◌else◌}
-use Rattle.std.specs.List.{list_any}
+use Rattle.std.specs.Prelude.{◌≡◌, ℕ, zero, suc, ◌+◌, ◌<◌, ◌≤◌, ◌⊎◌, ℤ, pos, negsuc, ◌+ℤ◌, ◌&&◌, List, [], ◌∷◌, ◌++◌, length, map, Option, Some, None, slice_get, IsTrue, if◌then◌else◌}
+use Rattle.std.specs.List.{AllByRecursion, list_any}
 use Rattle.math_terms.specs.declared.name.RowName.{RowName}
 use Rattle.math_terms.specs.declared.name.RowName.TheVariants.{Hyp, Second, Atom}
 use Rattle.num_theory.specs.declared.table.RowError.{RowError}
 use Rattle.num_theory.specs.declared.table.RowError.TheVariants.{TooMany, NoMemory}
+use Rattle.num_theory.specs.declared.table.RowTable.{RowTable}
 use Rattle.math_terms.specs.declared.descriptor.Sort.{Sort}
 use Rattle.math_terms.specs.declared.term.Term.{Term}
 use Rattle.math_terms.specs.declared.term.Term.TheOpen.{Term-F}
@@ -12,8 +13,7 @@ use Rattle.math_terms.specs.declared.term.Term.TheViews.{roll-Term, out-Term}
 use Rattle.math_terms.specs.Heads.{same_term}
 use Rattle.math_terms.specs.Sorts.{is_z}
 use Rattle.math_terms.specs.Kinds.{kind}
-use Rattle.num_theory.specs.Rows.{reduced}
-use Rattle.num_theory.specs.Lines.{narrow}
+use Rattle.num_theory.specs.Rows.{all_narrow, narrow, reduced}
 use Rattle.num_theory.specs.Linear.{Product, linear_of}
 
 -- A row with its name, before its atoms have columns: the sum of the products and the constant is at least 0.
@@ -156,6 +156,12 @@ rows_of g = map (row_of g.atoms) g.sums
 abbrev pub names_of : Gathered → List RowName
 names_of g = map (λ s. s.name) g.sums
 
+abbrev pub table_of : Gathered → RowTable
+table_of g = record { atoms = g.atoms; rows = rows_of g; names = names_of g }
+
+abbrev pub IsFew : Gathered → Type 0
+IsFew g = (length g.atoms ≤ 63) × (length g.sums ≤ 256)
+
 -- more than 63 atoms or more than 256 rows
 abbrev pub IsTooMany : Gathered → Type 0
 IsTooMany g = (63 < length g.atoms) ⊎ (256 < length g.sums)
@@ -164,3 +170,11 @@ IsTooMany g = (63 < length g.atoms) ⊎ (256 < length g.sums)
 abbrev pub IsRowRefusal : RowError → Gathered → Type 0
 IsRowRefusal TooMany g = IsTooMany g
 IsRowRefusal NoMemory g = Unit {0}
+
+-- A table that can be refuted: at most 63 atoms and 256 rows; each row has one number more than there are atoms, and none
+-- of magnitude 2 ^ 31.
+pub record IsTable (t : RowTable) : Type 0 where
+  pub atoms : length t.atoms ≤ 63
+  pub rows : length t.rows ≤ 256
+  pub widths : AllByRecursion (λ row. length row ≡ length t.atoms + 1) t.rows
+  pub numbers : AllByRecursion (λ row. IsTrue (all_narrow row)) t.rows

@@ -2,14 +2,14 @@
 
 ghost use Rattle.std.specs.Prelude.{◌≡◌, ◌+◌, ◌*◌, ◌<◌, ◌≤◌, ◌^◌, ◌++◌, [], ◌∷◌, IfErr, IfOk, OnOk, length, map, slice_index_or};
 ghost use Rattle.math_terms.specs.declared.term.Term.{Term};
-ghost use Rattle.num_theory.specs.Gathering.{Becomes, IsFew, gathered_of, no_rows, sum_of, with_sums};
+ghost use Rattle.num_theory.specs.Gathering.{Becomes, gathered_of, no_rows, sum_of, with_sums};
 ghost use Rattle.num_theory.specs.Laws.{RowsAreTrue};
 ghost use Rattle.num_theory.specs.Table as spec;
 
 use crate::facts::facts_of;
 use crate::forms::is_same;
 use crate::gathering::{Gathering, RowSum, add_facts, add_formula};
-use crate::laws::rows_follow;
+use crate::laws::{rows_fit, rows_follow};
 use crate::row::reduce;
 use crate::table::{RowError, RowTable};
 use crate::vectors::push;
@@ -26,10 +26,11 @@ pub fn rows(alloc: Global, vars: &[Sort], formulas: &[Formula]) -> Result<RowTab
     ensures exact { let table = spec.gathered 64 vars.now formulas.now in
         IfOk result (λ t. (t.atoms ≡ table.atoms) × (t.rows ≡ spec.rows_of table) × (t.names ≡ spec.names_of table)) }
     ensures meaning { IfOk result (λ t. RowsAreTrue formulas.now t.atoms t.rows) }
-    ensures few { IfOk result (λ t. (length t.atoms ≤ 63) × (length t.rows ≤ 256)) }
+    ensures table { IfOk result spec.IsTable }
     ensures refused { IfErr result (λ e. spec.IsRowRefusal e (spec.gathered 64 vars.now formulas.now)) }
 {
     rows_follow();
+    rows_fit();
     let mut table = empty_table(alloc);
     match add_formulas(alloc, &mut table, vars, formulas) {
         Ok(()) => {}
@@ -57,7 +58,7 @@ fn add_formulas(
     vars: &[Sort],
     formulas: &[Formula],
 ) -> Result<(), RowError>
-    requires few { IsFew (gathered_of table.old) }
+    requires few { spec.IsFew (gathered_of table.old) }
     requires numbered { length formulas.now < 2 ^ 32 }
     ensures { Becomes result table.new (with_sums (gathered_of table.old) (spec.sums_from vars.now 1 formulas.now)) }
 {
@@ -72,7 +73,7 @@ fn add_formulas(
 
 /// Adds the facts on each atom in turn, those that come with facts among them.
 fn add_all_facts(alloc: Global, table: &mut Gathering) -> Result<(), RowError>
-    requires few { IsFew (gathered_of table.old) }
+    requires few { spec.IsFew (gathered_of table.old) }
     requires none { table.old.facts ≡ 0 }
     ensures { Becomes result table.new (spec.with_all_facts 64 0 (gathered_of table.old)) }
 {
@@ -90,7 +91,7 @@ fn add_all_facts(alloc: Global, table: &mut Gathering) -> Result<(), RowError>
 
 /// Adds the facts on the atom at a place.
 fn add_facts_on(alloc: Global, table: &mut Gathering, i: usize) -> Result<(), RowError>
-    requires few { IsFew (gathered_of table.old) }
+    requires few { spec.IsFew (gathered_of table.old) }
     requires within { i < length table.old.atoms.items }
     requires room { table.old.facts + 2 < 2 ^ 32 }
     ensures added { (atom : Term) → atom ≡ slice_index_or table.old.atoms.items i atom → Becomes result table.new (spec.with_facts (gathered_of table.old) atom) }

@@ -1,72 +1,40 @@
 //! Forms of terms while they are made: their coefficients may be 0 or wide.
 
-ghost use Rattle.std.specs.Prelude.{◌≡◌, ◌+ℤ◌, ◌*ℤ◌, IfOk, OnOk, map, position, [], ◌∷◌, ◌++◌, negsuc};
+ghost use Rattle.std.specs.Prelude.{◌≡◌, IfOk, OnOk, map, position, [], ◌∷◌, ◌++◌};
 ghost use Rattle.math_terms.specs.declared.term.Term.TheOpen.{Term-F};
 ghost use Rattle.math_terms.specs.declared.term.Term.TheViews.{roll-Term};
 ghost use Rattle.math_terms.specs.Heads.{same_term};
 ghost use Rattle.math_terms.specs.Views.{binary_node};
-ghost use Rattle.num_theory.specs.Lines.{narrow};
 ghost use Rattle.num_theory.specs.Linear as spec;
 ghost use Rattle.num_theory.specs.Making.{form_of};
 
+use crate::number::Number;
 use crate::vectors::push;
 use math_terms::{Binary, NoMemory, Term, View, boxed, same_terms_are_equal};
 use std::alloc::Global;
 
-// The least magnitude of a wide coefficient, and the one that stands for all that are greater than it.
-const WIDE: i64 = 1 << 31;
-
-const CLIPPED: i64 = 1 << 62;
+const MINUS_ONE: Number = Number::Exact(-1);
 
 /// A sum of products, in the order in which their atoms first occur, and a constant. It is narrow where its numbers,
 /// and those of each form that it is made from, have magnitudes below 2^31.
 #[derive(Drop)]
 pub(crate) struct RawForm {
-    pub products: Vec<(i64, Term)>,
-    pub constant: i64,
+    pub products: Vec<(Number, Term)>,
+    pub constant: Number,
     pub is_narrow: bool,
 }
 
-fn clip(number: i128) -> i64
-    ensures { result ≡ spec.clipped number }
-{
-    if number >= -i128::from(CLIPPED) && number <= i128::from(CLIPPED) {
-        number as i64
-    } else {
-        CLIPPED
-    }
-}
-
-fn clipped_sum(a: i64, b: i64) -> i64
-    ensures { result ≡ spec.clipped (a +ℤ b) }
-{
-    clip(i128::from(a) + i128::from(b))
-}
-
-fn clipped_product(a: i64, b: i64) -> i64
-    ensures { result ≡ spec.clipped (a *ℤ b) }
-{
-    clip(i128::from(a) * i128::from(b))
-}
-
-/// Whether the magnitude is below 2^31.
-pub(crate) fn is_narrow(number: i64) -> bool
-    ensures { result ≡ narrow number }
-{
-    number > -WIDE && number < WIDE
-}
-
-fn are_narrow(products: &[(i64, Term)]) -> bool
+fn are_narrow(products: &[(Number, Term)]) -> bool
     ensures { result ≡ spec.narrow_products products.now }
 {
-    products.iter().all(|p| is_narrow(p.0))
+    products.iter().all(|p| p.0.is_narrow())
 }
 
 /// Whether no product has a coefficient other than 0.
-fn are_zero(products: &[(i64, Term)]) -> bool
+fn are_zero(products: &[(Number, Term)]) -> bool
     ensures { result ≡ spec.are_zero products.now }
 {
-    products.iter().all(|p| p.0 == 0)
+    products.iter().all(|p| p.0.is_zero())
 }
 
 /// Whether two terms are the same.
@@ -78,7 +46,7 @@ pub(crate) fn is_same(a: &Term, b: &Term) -> bool
 }
 
 /// The place of the first product with this atom.
-fn place_of(atom: &Term, products: &[(i64, Term)]) -> Option<usize>
+fn place_of(atom: &Term, products: &[(Number, Term)]) -> Option<usize>
     ensures { result ≡ position (λ p. same_term atom.now p.1) products.now }
 {
     products.iter().position(|p| is_same(atom, &p.1))
@@ -86,15 +54,15 @@ fn place_of(atom: &Term, products: &[(i64, Term)]) -> Option<usize>
 
 /// Adds the product to the one of the same atom, or else puts it last.
 fn add_product(
-    products: &mut Vec<(i64, Term)>,
-    coefficient: i64,
+    products: &mut Vec<(Number, Term)>,
+    coefficient: Number,
     atom: Term,
 ) -> Result<(), NoMemory>
     ensures { OnOk result (products.new.items ≡ spec.add_product (coefficient, atom) products.old.items) }
 {
     match place_of(&atom, products) {
         Some(k) => {
-            products[k].0 = clipped_sum(products[k].0, coefficient);
+            products[k].0 = products[k].0.plus(coefficient);
             Ok(())
         }
         None => push(products, (coefficient, atom)),
@@ -102,7 +70,10 @@ fn add_product(
 }
 
 /// Adds products one after another.
-fn add_products(products: &mut Vec<(i64, Term)>, more: Vec<(i64, Term)>) -> Result<(), NoMemory>
+fn add_products(
+    products: &mut Vec<(Number, Term)>,
+    more: Vec<(Number, Term)>,
+) -> Result<(), NoMemory>
     ensures { OnOk result (products.new.items ≡ spec.add_products products.old.items more.items) }
 {
     for (coefficient, atom) in more {
@@ -112,10 +83,10 @@ fn add_products(products: &mut Vec<(i64, Term)>, more: Vec<(i64, Term)>) -> Resu
 }
 
 /// A form with these numbers, made from forms that are narrow or not.
-fn made(parts: bool, products: Vec<(i64, Term)>, constant: i64) -> RawForm
+fn made(parts: bool, products: Vec<(Number, Term)>, constant: Number) -> RawForm
     ensures { form_of result ≡ spec.made parts products.items constant }
 {
-    let is_narrow = parts && are_narrow(&products) && is_narrow(constant);
+    let is_narrow = parts && are_narrow(&products) && constant.is_narrow();
     RawForm {
         products,
         constant,
@@ -126,15 +97,15 @@ fn made(parts: bool, products: Vec<(i64, Term)>, constant: i64) -> RawForm
 fn constant_form(alloc: Global, number: i64) -> RawForm
     ensures { form_of result ≡ spec.constant_form number }
 {
-    made(true, Vec::new(alloc), number)
+    made(true, Vec::new(alloc), Number::Exact(i128::from(number)))
 }
 
 fn atom_form(alloc: Global, t: &Term) -> Result<RawForm, NoMemory>
     ensures { IfOk result (λ f. form_of f ≡ spec.atom_form t.now) }
 {
     let mut products = Vec::new(alloc);
-    push(&mut products, (1, t.copy(alloc)?))?;
-    Ok(made(true, products, 0))
+    push(&mut products, (Number::Exact(1), t.copy(alloc)?))?;
+    Ok(made(true, products, Number::Exact(0)))
 }
 
 fn plus(f: RawForm, g: RawForm) -> Result<RawForm, NoMemory>
@@ -151,22 +122,18 @@ fn plus(f: RawForm, g: RawForm) -> Result<RawForm, NoMemory>
         is_narrow: is_other_narrow,
     } = g;
     add_products(&mut products, more)?;
-    Ok(made(
-        is_narrow && is_other_narrow,
-        products,
-        clipped_sum(constant, other),
-    ))
+    Ok(made(is_narrow && is_other_narrow, products, constant.plus(other)))
 }
 
-fn scale(by: i64, products: &mut [(i64, Term)])
+fn scale(by: Number, products: &mut [(Number, Term)])
     ensures { products.new ≡ map (spec.scaled by) products.old }
 {
     for p in products.iter_mut() {
-        p.0 = clipped_product(by, p.0);
+        p.0 = by.times(p.0);
     }
 }
 
-fn times(by: i64, f: RawForm) -> RawForm
+fn times(by: Number, f: RawForm) -> RawForm
     ensures { form_of result ≡ spec.times by (form_of f) }
 {
     let RawForm {
@@ -175,7 +142,7 @@ fn times(by: i64, f: RawForm) -> RawForm
         is_narrow,
     } = f;
     scale(by, &mut products);
-    made(is_narrow, products, clipped_product(by, constant))
+    made(is_narrow, products, by.times(constant))
 }
 
 /// The constant of the form `f` times the form `g`.
@@ -227,9 +194,9 @@ fn sum_form(alloc: Global, a: &Term, b: &Term) -> Result<RawForm, NoMemory>
 /// The form of the first term minus the second.
 #[cycle(form)]
 pub(crate) fn difference_form(alloc: Global, a: &Term, b: &Term) -> Result<RawForm, NoMemory>
-    ensures { IfOk result (λ f. form_of f ≡ spec.plus (spec.formed a.now).1 (spec.times (negsuc 0) (spec.formed b.now).1)) }
+    ensures { IfOk result (λ f. form_of f ≡ spec.plus (spec.formed a.now).1 (spec.times spec.minus_one (spec.formed b.now).1)) }
 {
-    plus(raw_form(alloc, a)?, times(-1, raw_form(alloc, b)?))
+    plus(raw_form(alloc, a)?, times(MINUS_ONE, raw_form(alloc, b)?))
 }
 
 /// The form of a product `t` of two terms.
@@ -274,7 +241,7 @@ fn remainder_by(
         return atom_form(alloc, t);
     }
     let quotient = quotient_form(alloc, a, b)?;
-    let rounded = multiple(times(-1, constant_form(alloc, number)), quotient);
+    let rounded = multiple(times(MINUS_ONE, constant_form(alloc, number)), quotient);
     plus(raw_form(alloc, a)?, rounded)
 }
 

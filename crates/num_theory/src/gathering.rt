@@ -5,12 +5,13 @@ ghost use Rattle.std.specs.List.{list_any};
 ghost use Rattle.math_terms.specs.Heads.{same_term};
 ghost use Rattle.math_terms.specs.Kinds.{kind};
 ghost use Rattle.math_terms.specs.Sorts.{is_z};
-ghost use Rattle.num_theory.specs.Lines.{narrow};
-ghost use Rattle.num_theory.specs.Gathering.{Becomes, IsFew, gathered_of, sum_of, with_each_fact, with_fact, with_sums};
+ghost use Rattle.num_theory.specs.Rows.{narrow};
+ghost use Rattle.num_theory.specs.Gathering.{Becomes, gathered_of, sum_of, with_each_fact, with_fact, with_sums};
 ghost use Rattle.num_theory.specs.Table as spec;
 
-use crate::forms::{is_narrow, is_same};
+use crate::forms::is_same;
 use crate::linear_form::linear_difference;
+use crate::row::is_narrow;
 use crate::table::{LinearForm, RowError};
 use crate::vectors::push;
 use math_terms::{Binary, Items, NoMemory, RowName, Sort, Term, View, kind_of};
@@ -91,7 +92,7 @@ fn add_form(
     shift: i32,
     form: LinearForm,
 ) -> Result<(), RowError>
-    requires { IsFew (gathered_of table.old) }
+    requires { spec.IsFew (gathered_of table.old) }
     ensures { Becomes result table.new (with_sums (gathered_of table.old) (spec.sums_of_form name shift (Some (form.products, form.constant)))) }
 {
     let LinearForm { products, constant } = form;
@@ -118,7 +119,7 @@ fn add_difference(
     left: &Term,
     right: &Term,
 ) -> Result<(), RowError>
-    requires { IsFew (gathered_of table.old) }
+    requires { spec.IsFew (gathered_of table.old) }
     ensures { Becomes result table.new (with_sums (gathered_of table.old) (spec.difference name shift left.now right.now)) }
 {
     match linear_difference(alloc, right, left)? {
@@ -149,7 +150,7 @@ fn add_equation(
     a: &Term,
     b: &Term,
 ) -> Result<(), RowError>
-    requires { IsFew (gathered_of table.old) }
+    requires { spec.IsFew (gathered_of table.old) }
     ensures { Becomes result table.new (with_sums (gathered_of table.old) (spec.sums_of_equation vars.now k a.now b.now)) }
 {
     if !are_numbers(alloc, a, b, vars)? {
@@ -169,7 +170,7 @@ pub(crate) fn add_formula(
     k: u32,
     formula: &Term,
 ) -> Result<(), RowError>
-    requires { IsFew (gathered_of table.old) }
+    requires { spec.IsFew (gathered_of table.old) }
     ensures { Becomes result table.new (with_sums (gathered_of table.old) (spec.sums_of vars.now k formula.now)) }
 {
     match formula.view() {
@@ -184,7 +185,7 @@ pub(crate) fn add_formula(
 
 /// Adds the row of a fact, which is counted.
 fn add_fact(alloc: Global, table: &mut Gathering, fact: &Term) -> Result<(), RowError>
-    requires few { IsFew (gathered_of table.old) }
+    requires few { spec.IsFew (gathered_of table.old) }
     requires room { table.old.facts + 1 < 2 ^ 32 }
     ensures { Becomes result table.new (with_fact (gathered_of table.old) fact.now) }
 {
@@ -202,7 +203,7 @@ pub(crate) fn add_facts(
     table: &mut Gathering,
     facts: &[Term],
 ) -> Result<(), RowError>
-    requires few { IsFew (gathered_of table.old) }
+    requires few { spec.IsFew (gathered_of table.old) }
     requires room { table.old.facts + length facts.now < 2 ^ 32 }
     ensures { Becomes result table.new (with_each_fact (gathered_of table.old) facts.now) }
 {

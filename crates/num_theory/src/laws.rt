@@ -1,6 +1,6 @@
 //! Laws of the definitions. The functions do nothing: their contracts are what is proved.
 
-ghost use Rattle.num_theory.specs.Laws.{FormsKeepValues, LinearTestsAreSound, RefutedRowsClash, RowsFollow};
+ghost use Rattle.num_theory.specs.Laws.{FormsKeepValues, LinearTestsAreSound, RefutedRowsClash, RowsFit, RowsFollow};
 
 use math_terms::{equality_is_sameness, same_terms_are_equal};
 
@@ -18,6 +18,11 @@ pub fn rows_follow()
     same_terms_are_equal();
     equality_is_sameness();
 }
+
+/// Where formulas make few atoms and rows, these are a table that can be refuted.
+pub fn rows_fit()
+    ensures { RowsFit }
+{}
 
 /// Rows of one length that lines refute are not all true.
 pub fn refuted_rows_clash()

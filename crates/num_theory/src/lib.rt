@@ -8,16 +8,19 @@ mod forms;
 mod gathering;
 mod laws;
 mod linear_form;
+mod number;
 mod row;
 mod table;
-#[cfg(test)]
-mod tests;
 mod texts;
 mod vectors;
 
 pub use first_rows::rows;
-pub use laws::{forms_keep_values, linear_tests_are_sound, refuted_rows_clash, rows_follow};
+pub use laws::{
+    forms_keep_values, linear_tests_are_sound, refuted_rows_clash, rows_fit, rows_follow,
+};
 pub use linear_form::linear;
+pub use math_terms::RowName;
+pub use number::Number;
 pub use row::{Wide, combine, largest, reduce};
 pub use table::{LinearForm, RowError, RowTable};
 pub use texts::text_of;

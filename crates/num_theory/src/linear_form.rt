@@ -8,11 +8,12 @@ ghost use Rattle.math_terms.specs.Descriptors.{Interpretation, value};
 ghost use Rattle.math_terms.specs.Meaning.{Valuation};
 ghost use Rattle.math_terms.specs.Values.{number};
 ghost use Rattle.num_theory.specs.Laws.{sum_of_products};
-ghost use Rattle.num_theory.specs.Lines.{narrow};
 ghost use Rattle.num_theory.specs.Linear as spec;
+ghost use Rattle.num_theory.specs.Number.{exact, is_narrow, is_zero};
 ghost use Rattle.num_theory.specs.Making.{IsWellMade, form_of, linear_shown, text_of_product};
 
 use crate::forms::{RawForm, difference_form, raw_form};
+use crate::number::Number;
 use crate::table::LinearForm;
 use crate::texts::{stands_before, text_of};
 use crate::vectors::insert;
@@ -51,14 +52,14 @@ fn shown_form(alloc: Global, form: RawForm) -> Result<Option<LinearForm>, NoMemo
     let products = in_text_order(alloc, form.products)?;
     Ok(Some(LinearForm {
         products,
-        constant: form.constant as i32,
+        constant: form.constant.exact(),
     }))
 }
 
 /// The products with coefficients other than 0, in the order of their atoms' texts.
 fn in_text_order(
     alloc: Global,
-    mut products: Vec<(i64, Term)>,
+    mut products: Vec<(Number, Term)>,
 ) -> Result<Items<(i32, Term)>, NoMemory>
     requires { IsTrue (spec.narrow_products products.items) }
     ensures { IfOk result (λ shown. shown ≡ spec.shown products.items) }
@@ -74,23 +75,23 @@ fn in_text_order(
 /// Puts a product in its place, unless its coefficient is 0.
 fn place(
     alloc: Global,
-    coefficient: i64,
+    coefficient: Number,
     atom: Term,
     ordered: &mut Vec<(i32, Term)>,
     texts: &mut Vec<Items<u8>>,
 ) -> Result<(), NoMemory>
-    requires small { IsTrue (narrow coefficient) }
+    requires small { IsTrue (is_narrow coefficient) }
     requires same { texts.old.items ≡ map text_of_product ordered.old.items }
-    ensures placed { OnOk result (ordered.new.items ≡ (if spec.is_zero coefficient then ordered.old.items else spec.insert_product (coefficient, atom) ordered.old.items)) }
+    ensures placed { OnOk result (ordered.new.items ≡ (if is_zero coefficient then ordered.old.items else spec.insert_product (exact coefficient, atom) ordered.old.items)) }
     ensures same { OnOk result (texts.new.items ≡ map text_of_product ordered.new.items) }
 {
-    if coefficient == 0 {
+    if coefficient.is_zero() {
         return Ok(());
     }
     let text = Items::from_vec(text_of(alloc, &atom)?);
     let at = place_of(text.as_slice(), texts);
     insert(texts, at, text)?;
-    insert(ordered, at, (coefficient as i32, atom))
+    insert(ordered, at, (coefficient.exact(), atom))
 }
 
 /// The place of the first text that this one stands before, or after the last where there is none.

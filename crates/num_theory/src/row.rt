@@ -1,14 +1,21 @@
 //! Rows of numbers, of which the last is the constant: their sums, their magnitudes and their reduced form.
-ghost use Rattle.std.specs.Prelude.{◌≡◌, ◌^◌, ◌<◌, length, pos, unsigned_abs, map, fold, All, IsOk, IsErr, IfSome, IfNone, ◌≤◌, ◌*ℤ◌};
+ghost use Rattle.std.specs.Prelude.{◌≡◌, ◌^◌, ◌<◌, length, pos, unsigned_abs, map, fold, All, IsOk, IsErr, IfSome, IfNone, ◌*ℤ◌, true, false};
 ghost use Rattle.std.specs.Int.{int_div_euclid};
-ghost use Rattle.num_theory.specs.Rows.{combined, combined_number, IsNarrow, AllNarrow, greatest, gcd, divisor, reduced, coefficients, IsGreatestDivisor};
+ghost use Rattle.num_theory.specs.Rows.{combined, combined_number, all_narrow, narrow, greatest, gcd, divisor, reduced, coefficients, IsGreatestDivisor};
 
 /// A number has magnitude 2^31 or more.
 #[derive(Clone, Copy, Debug, PartialEq, Eq)]
 pub struct Wide;
 
 // The least magnitude that is wide.
-const NARROW_END: u64 = 1 << 31;
+const WIDE: i64 = 1 << 31;
+
+/// Whether the magnitude is below 2^31.
+pub(crate) fn is_narrow(number: i64) -> bool
+    ensures { result ≡ narrow number }
+{
+    number > -WIDE && number < WIDE
+}
 
 fn times(by: u32, number: i32) -> i64
     requires { by < 2 ^ 31 }
@@ -21,11 +28,11 @@ fn times(by: u32, number: i32) -> i64
 fn combine_numbers(p: u32, x: i32, q: u32, y: i32) -> Option<i32>
     requires p_small { p < 2 ^ 31 }
     requires q_small { q < 2 ^ 31 }
-    ensures fits { IfSome result (λ z. (z ≡ combined_number p x q y) × IsNarrow z) }
-    ensures wide { IfNone result (2 ^ 31 ≤ unsigned_abs (combined_number p x q y)) }
+    ensures fits { IfSome result (λ z. (z ≡ combined_number p x q y) × (narrow (combined_number p x q y) ≡ true)) }
+    ensures wide { IfNone result (narrow (combined_number p x q y) ≡ false) }
 {
     let sum = times(p, x) + times(q, y);
-    if sum.unsigned_abs() < NARROW_END {
+    if is_narrow(sum) {
         Some(sum as i32)
     } else {
         None
@@ -39,8 +46,8 @@ pub fn combine(p: u32, a: &[i32], q: u32, b: &[i32], out: &mut [i32]) -> Result<
     requires q_small { q < 2 ^ 31 }
     requires same_length { length a.now ≡ length b.now }
     requires out_length { length out.old ≡ length a.now }
-    ensures fits { AllNarrow (combined p a.now q b.now) → IsOk result × (out.new ≡ combined p a.now q b.now) }
-    ensures wide { (AllNarrow (combined p a.now q b.now) → ⊥) → IsErr result × All (λ z. z ≡ pos 0) out.new }
+    ensures fits { all_narrow (combined p a.now q b.now) ≡ true → IsOk result × (out.new ≡ combined p a.now q b.now) }
+    ensures wide { all_narrow (combined p a.now q b.now) ≡ false → IsErr result × All (λ z. z ≡ pos 0) out.new }
 {
     for k in 0..out.len() {
         match combine_numbers(p, a[k], q, b[k]) {

@@ -1,8 +1,7 @@
 -- Which rows lines use, and the step that names them.
-use Rattle.std.proofs.Common.{◌≡◌, ◌∙◌, sym, ap, refl, ℕ, zero, suc, ◌+◌, ◌<◌, ◌≤◌, ltb, leb, ◌&&◌, Bool, true, false, List, [], ◌∷◌, ◌++◌, length, map, take, get_or, Option, Some, None, slice_get, arith}
-use Rattle.std.specs.Prelude.{◌==◌, if◌then◌else◌}
-use Rattle.std.proofs.lemmas.Bool.{and_from, cond-true, cond-false, cond_both, le-leb}
-use Rattle.std.proofs.lemmas.Bool.Decides.{nat_tests}
+use Rattle.std.proofs.Common.{◌≡◌, ◌∙◌, sym, ap, refl, ℕ, zero, suc, ◌+◌, ◌<◌, ◌≤◌, leb, Bool, true, false, List, [], ◌∷◌, ◌++◌, length, map, take, get_or, Some, None, slice_get, arith}
+use Rattle.std.specs.Prelude.{if◌then◌else◌}
+use Rattle.std.proofs.lemmas.Bool.{and_from, cond-true, cond_both, le-leb}
 use Rattle.std.proofs.lemmas.List.{append-nil, append_assoc, length-append, length-map, length-take-le, map-append, take_more}
 use Rattle.math_terms.specs.declared.descriptor.Sort.{Sort}
 use Rattle.math_terms.specs.declared.name.Line.{Line}
@@ -10,15 +9,13 @@ use Rattle.math_terms.specs.declared.name.RowName.{RowName}
 use Rattle.math_terms.specs.declared.term.Term.{Term}
 use Rattle.num_theory.specs.declared.table.RowTable.{RowTable}
 use Rattle.num_theory.specs.Naming.{name_among, negated_goal}
-use Rattle.num_theory.specs.Table.{Gathered, Sum, gathered, names_of, row_of, rows_of}
+use Rattle.num_theory.specs.Table.{Gathered, IsTable, Sum, gathered, names_of, row_of, rows_of}
 use Rattle.linear_prover.specs.Elimination.{refutation}
 use Rattle.vc_sequents.specs.declared.sequent.Sequent.{Sequent}
 use Rattle.vc_sequents.specs.Splitting.{sorts_of}
-use Rattle.cert_form.specs.declared.cert.Step.{Step}
 use Rattle.cert_form.specs.declared.cert.Step.TheVariants as step
 use Rattle.vc_prover.specs.Search.{by_linear, called_line, is_alone, is_table, is_used, linear_step_of, mapped, names_at, table_of, used_from}
-use Rattle.vc_prover.specs.Working.{IsTableOf, chosen, step_by}
-use Rattle.vc_prover.proofs.Narrow.{gathered_table}
+use Rattle.vc_prover.specs.working.Answers.{IsTableOf, chosen, step_by}
 
 -- one more
 abbrev one_if : {A : Type 0} → Bool → A → List A
@@ -148,12 +145,12 @@ by_table_found s t lines is found =
 -- what is made of the rows of a sequent is its table
 pub table_is : (s : Sequent) (sorts : List Sort) (formulas : List Term) (t : RowTable) → sorts ≡ sorts_of s → formulas ≡ s.hyps ++ negated_goal s.goal →
     (t.atoms ≡ (gathered 64 sorts formulas).atoms) × (t.rows ≡ rows_of (gathered 64 sorts formulas)) × (t.names ≡ names_of (gathered 64 sorts formulas)) →
-    (length t.atoms ≤ 63) × (length t.rows ≤ 256) → IsTableOf (table_of s) t
+    IsTable t → IsTableOf (table_of s) t
 table_is s sorts formulas t e f is few =
     let same : gathered 64 sorts formulas ≡ table_of s = λ i. gathered 64 (e i) (f i) in
     record {
       atoms = is.0 ∙ ap (λ (g : Gathered). g.atoms) same;
       rows = is.1 ∙ ap rows_of same;
       names = is.2 ∙ ap names_of same;
-      few = gathered_table 64 sorts formulas t is.0 is.1 few.0 few.1;
+      few = few;
     }

@@ -1,6 +1,6 @@
 -- Rows without columns of zeros: their sums, and whether they are contradictions, stay the same.
-use Rattle.std.proofs.Common.{◌≡◌, ◌∙◌, sym, ap, refl, subst, ℕ, zero, suc, ◌+◌, ◌-◌, ◌<◌, ◌≤◌, ◌==◌, ◌&&◌, cond, ℤ, pos, negsuc, int_lt, unsigned_abs, Bool, true, false, List, [], ◌∷◌, ◌++◌, length, map, take, fold, get_or, Option, Some, None, ⊎_elim, arith}
-use Rattle.std.specs.Prelude.{if◌then◌else◌, slice_index_or}
+use Rattle.std.proofs.Common.{◌≡◌, ◌∙◌, sym, ap, refl, subst, ℕ, suc, ◌-◌, ◌≤◌, ◌==◌, ◌&&◌, cond, ℤ, pos, int_lt, unsigned_abs, Bool, true, false, List, [], ◌∷◌, ◌++◌, length, map, take, fold, Some, None, arith}
+use Rattle.std.specs.Prelude.{slice_index_or}
 use Rattle.std.specs.Int.{int_div_euclid}
 use Rattle.std.specs.Ordering.{int_eq}
 use Rattle.std.proofs.Math.Nat.{zero-div}

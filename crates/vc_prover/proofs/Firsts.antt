@@ -1,12 +1,11 @@
 -- How far the tests of formulas, of pairs and of numbers have come.
-use Rattle.std.proofs.Common.{◌≡◌, ◌∙◌, sym, ap, refl, ℕ, zero, suc, ◌+◌, ◌-◌, ◌<◌, ◌≤◌, Bool, true, false, List, [], ◌∷◌, length, drop, get_or, Option, Some, None, drop-cons, add-one, arith}
-use Rattle.std.specs.Prelude.{◌==◌, if◌then◌else◌}
+use Rattle.std.proofs.Common.{◌≡◌, ◌∙◌, sym, ap, refl, ℕ, zero, suc, ◌+◌, ◌<◌, ◌≤◌, Bool, true, false, List, [], ◌∷◌, length, drop, get_or, Option, Some, None, drop-cons, add-one, arith}
+use Rattle.std.specs.Prelude.{if◌then◌else◌}
 use Rattle.std.proofs.lemmas.Bool.{cond-true, cond-false}
 use Rattle.math_terms.specs.declared.term.Term.{Term}
-use Rattle.cert_form.specs.declared.cert.Step.{Step}
 use Rattle.cert_form.specs.declared.cert.Step.TheVariants as step
 use Rattle.cert_check.specs.Legality.{is_negation_of}
-use Rattle.vc_prover.specs.Search.{clash_from, first_from, mapped, or_else, place_of}
+use Rattle.vc_prover.specs.Search.{clash_from, first_from, mapped, or_else}
 
 -- the tests so far failed
 abbrev pub Reached : (Term → Bool) → List Term → ℕ → Type 0

@@ -5,10 +5,8 @@ pub mod Columns
 pub mod Enough
 pub mod Firsts
 pub mod Fuel
-pub mod Gathering
 pub mod Legal
 pub mod Refuting
 pub mod Names
-pub mod Narrow
 pub mod Replay
 pub mod Standing

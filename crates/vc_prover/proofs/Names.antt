@@ -12,13 +12,12 @@ use Rattle.math_terms.specs.declared.term.Term.TheOpen.{Term-F}
 use Rattle.math_terms.specs.declared.term.Term.TheViews.{roll-Term, out-Term}
 use Rattle.math_terms.specs.Sorts.{is_z}
 use Rattle.math_terms.specs.Kinds.{kind}
-use Rattle.num_theory.specs.Lines.{narrow}
+use Rattle.num_theory.specs.Rows.{narrow}
 use Rattle.num_theory.specs.Linear.{Product, linear_of}
 use Rattle.num_theory.specs.Naming.{find_row, find_rows, name_among, same_name}
 use Rattle.num_theory.specs.Table.{Gathered, Sum, atoms_of, difference, facts_of, gathered, go_on, sums_at, sums_from, sums_of, sums_of_equation, sums_of_fact, sums_of_fact_at, sums_of_facts, sums_of_form, with_all_facts, with_facts}
 use Rattle.vc_prover.specs.Search.{is_used}
-use Rattle.vc_prover.specs.Working.{chosen}
-use Rattle.vc_prover.proofs.Gathering.{all_both}
+use Rattle.vc_prover.specs.working.Answers.{chosen}
 
 -- names in order: those of formulas, and those of facts
 abbrev is_fact : RowName → Bool
@@ -52,6 +51,10 @@ abbrev Distinct : List Sum → Type 0
 Distinct [] = Unit {0}
 Distinct (s ∷ ss) = AllByRecursion (Apart s) ss × Distinct ss
 
+all_append : {A : Type 0} (P : A → Type 0) (xs ys : List A) → AllByRecursion P xs → AllByRecursion P ys → AllByRecursion P (xs ++ ys)
+all_append P [] ys h k = k
+all_append P (x ∷ xs) ys h k = (h.0, all_append P xs ys h.1 k)
+
 all_weaker : {A : Type 0} (P Q : A → Type 0) → ((x : A) → P x → Q x) → (xs : List A) → AllByRecursion P xs → AllByRecursion Q xs
 all_weaker P Q f [] h = tt
 all_weaker P Q f (x ∷ xs) h = (f x h.0, all_weaker P Q f xs h.1)
@@ -59,7 +62,7 @@ all_weaker P Q f (x ∷ xs) h = (f x h.0, all_weaker P Q f xs h.1)
 -- two lists of rows of which those of the one have other names than those of the other
 distinct_both : (P Q : Sum → Type 0) → ((s t : Sum) → P s → Q t → Apart s t) → (xs ys : List Sum) → AllByRecursion P xs → AllByRecursion Q ys → Distinct xs → Distinct ys → Distinct (xs ++ ys)
 distinct_both P Q f [] ys h k d e = e
-distinct_both P Q f (x ∷ xs) ys h k d e = (all_both (Apart x) xs ys d.0 (all_weaker Q (Apart x) (λ y q. f x y h.0 q) ys k), distinct_both P Q f xs ys h.1 k d.1 e)
+distinct_both P Q f (x ∷ xs) ys h k d e = (all_append (Apart x) xs ys d.0 (all_weaker Q (Apart x) (λ y q. f x y h.0 q) ys k), distinct_both P Q f xs ys h.1 k d.1 e)
 
 apart_places : (fact : Bool) (a b c d : ℕ) → b ≤ c → (s t : Sum) → Spans fact a b s → Spans fact c d t → Apart s t
 apart_places fact a b c d le s t h k e = omega (arith, h.below, k.from, ap place e)
@@ -94,7 +97,7 @@ record Good (fact : Bool) (low high : ℕ) (ss : List Sum) : Type 0 where
 
 good_both : (fact : Bool) (a b c : ℕ) (xs ys : List Sum) → a ≤ b → b ≤ c → Good fact a b xs → Good fact b c ys → Good fact a c (xs ++ ys)
 good_both fact a b c xs ys le me h k = record {
-  spans = all_both (Spans fact a c) xs ys (all_weaker (Spans fact a b) (Spans fact a c) (wider fact a b a c (omega arith) me) xs h.spans)
+  spans = all_append (Spans fact a c) xs ys (all_weaker (Spans fact a b) (Spans fact a c) (wider fact a b a c (omega arith) me) xs h.spans)
       (all_weaker (Spans fact b c) (Spans fact a c) (wider fact b c a c le (omega arith)) ys k.spans);
   distinct = distinct_both (Spans fact a b) (Spans fact b c) (apart_places fact a b b c (omega arith)) xs ys h.spans k.spans h.distinct k.distinct;
 }
@@ -157,7 +160,7 @@ whole_facts : (g : Gathered) (atom : Term) → Whole g → Whole (with_facts g a
 whole_facts g atom h =
     let new = good_facts (g.facts + 1) (facts_of atom) in
     record {
-      old = all_both (IsOld (g.facts + length (facts_of atom))) g.sums (sums_of_facts (g.facts + 1) (facts_of atom))
+      old = all_append (IsOld (g.facts + length (facts_of atom))) g.sums (sums_of_facts (g.facts + 1) (facts_of atom))
           (all_weaker (IsOld g.facts) (IsOld (g.facts + length (facts_of atom))) (λ s o. record { old = λ is. omega (arith, o.old is); named = o.named }) g.sums h.old)
           (all_weaker (Spans true (g.facts + 1) ((g.facts + 1) + length (facts_of atom))) (IsOld (g.facts + length (facts_of atom))) (λ s o. record { old = λ is. omega (arith, o.below); named = o.named })
           (sums_of_facts (g.facts + 1) (facts_of atom)) new.spans);

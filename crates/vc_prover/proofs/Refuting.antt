@@ -1,5 +1,5 @@
 -- The step of a refutation is allowed.
-use Rattle.std.proofs.Common.{◌≡◌, ◌∙◌, sym, ap, refl, subst, ℕ, zero, suc, ◌+◌, ◌≤◌, ◌==◌, ◌&&◌, leb, Bool, true, false, List, [], ◌∷◌, ◌++◌, length, map, ℤ, pos, Option, Some, None, IsTrue, ⊎_elim, arith}
+use Rattle.std.proofs.Common.{◌≡◌, ◌∙◌, sym, ap, refl, subst, ℕ, ◌+◌, ◌≤◌, ◌==◌, leb, Bool, true, false, List, [], ◌∷◌, ◌++◌, length, map, ℤ, pos, Some, None, ⊎_elim, arith}
 use Rattle.std.specs.Prelude.{if◌then◌else◌}
 use Rattle.std.proofs.lemmas.Bool.{and_parts, and_from, cases_Bool, cond-true, cond-false, eqb-true, leb-true, le-leb, false≢true}
 use Rattle.std.proofs.lemmas.List.{length-map}
@@ -8,25 +8,24 @@ use Rattle.std.proofs.lemmas.Option.{same_Some}
 use Rattle.math_terms.specs.declared.name.Line.{Line}
 use Rattle.math_terms.specs.declared.name.RowName.{RowName}
 use Rattle.math_terms.specs.declared.term.Term.{Term}
-use Rattle.num_theory.specs.declared.table.RowTable.{RowTable}
+use Rattle.num_theory.specs.Laws.{RowsFit}
 use Rattle.num_theory.specs.Lines.{ends_in_contradiction, is_contradiction, refutes}
-use Rattle.num_theory.specs.Naming.{columns, find_rows, linear_test, most_atoms, name_among, negated_goal, occurs, refuted_by, rows_at_hand, rows_refute}
+use Rattle.num_theory.specs.Naming.{columns, find_rows, name_among, negated_goal, occurs, refuted_by, rows_at_hand, rows_refute}
+use Rattle.num_theory.specs.Table as rows
 use Rattle.num_theory.specs.Table.{Gathered, Sum, gathered, row_of, rows_of}
 use Rattle.linear_prover.specs.Elimination.{eliminate_from, first_line, found, numbered_from, or_else, refutation}
 use Rattle.linear_prover.specs.Laws.{RefutationsRefute}
 use Rattle.vc_sequents.specs.declared.sequent.Sequent.{Sequent}
 use Rattle.vc_sequents.specs.Splitting.{sorts_of}
 use Rattle.cert_form.specs.declared.cert.Step.{Step}
-use Rattle.cert_form.specs.declared.cert.Step.TheVariants as step
 use Rattle.cert_check.specs.Legality.{gives, linear_step, when}
 use Rattle.vc_prover.specs.Search.{by_linear, called_line, is_alone, is_table, linear_step_of, mapped, table_of, used_from}
-use Rattle.vc_prover.specs.Working.{chosen, lines_over, step_by}
+use Rattle.vc_prover.specs.working.Answers.{chosen, lines_over, step_by}
 use Rattle.vc_prover.proofs.Allowing.{mapped_some}
 use Rattle.vc_prover.proofs.Choosing.{chosen_map, step_is}
 use Rattle.vc_prover.proofs.Columns.{columns_few}
 use Rattle.vc_prover.proofs.Enough.{rows_at_hand_is}
 use Rattle.vc_prover.proofs.Names.{chosen_found}
-use Rattle.vc_prover.proofs.Narrow.{gathered_table, table_as}
 use Rattle.vc_prover.proofs.Replay.{alone_refuted, used_refuted}
 
 -- a table whose last row is a contradiction has a first line
@@ -70,7 +69,7 @@ module _ (atoms : List Term) (sums : List Sum) (n : ℕ) (same : n ≡ length su
   over_refuted (l ∷ []) some h = one_refuted l (l.i == l.j) refl h
   over_refuted (l ∷ m ∷ ls) some h = called_refuted l (m ∷ ls) h
 
-module _ (law : RefutationsRefute) (s : Sequent) where
+module _ (law : RefutationsRefute) (fit : RowsFit) (s : Sequent) where
   abbrev table : Gathered
   table = table_of s
 
@@ -80,8 +79,8 @@ module _ (law : RefutationsRefute) (s : Sequent) where
   lines_pass : (lines : List Line) → length table.atoms ≤ 63 → length table.sums ≤ 256 → refutation (length table.atoms) (rows_of table) ≡ Some lines →
       rows_refute table.atoms (lines_over row_names lines) (chosen 1 table.sums lines) ≡ true
   lines_pass lines few_atoms few_rows e =
-      let is = gathered_table 64 (sorts_of s) (s.hyps ++ negated_goal s.goal) (table_as table) refl refl few_atoms (omega (arith, few_rows, length-map table.sums (row_of table.atoms))) in
-      let refuted : refutes (rows_of table) lines ≡ true = law (table_as table) lines is e in
+      let is = fit 64 (sorts_of s) (s.hyps ++ negated_goal s.goal) (few_atoms, few_rows) in
+      let refuted : refutes (rows_of table) lines ≡ true = law (rows.table_of table) lines is e in
       let P : List Line → Type 0 = λ ls. refutes (rows_of table) ls ≡ true in
       let some : lines ≡ [] → ⊥ = λ none. some_lines (length table.atoms) (rows_of table) (e ∙ ap Some none) (subst P none refuted) in
       let columns_are : length (columns table.atoms (chosen 1 table.sums lines)) ≤ 63 = omega (arith, columns_few (occurs (chosen 1 table.sums lines)) table.atoms, few_atoms) in

@@ -4,14 +4,14 @@ use Rattle.std.specs.Prelude.{if◌then◌else◌}
 use Rattle.std.proofs.lemmas.Bool.{cases_Bool, cases_lt, cond-true, cond-false, eqb-true, eq-eqb, leb-true, le-leb, or_left, or_right, false≢true}
 use Rattle.std.proofs.lemmas.List.{length-append, length-map}
 use Rattle.std.proofs.lemmas.Option.{same_Some, slice_get-map, slice_get_within}
-use Rattle.std.specs.List.{AllByRecursion, list_any}
+use Rattle.std.specs.List.{AllByRecursion}
 use Rattle.math_terms.specs.declared.name.Line.{Line}
 use Rattle.math_terms.specs.declared.term.Term.{Term}
 use Rattle.num_theory.specs.Lines.{ends_in_contradiction, is_contradiction, is_refuted, numbered, refutes, sum_at, sum_by, sum_of, with_lines}
 use Rattle.num_theory.specs.Naming.{columns, occurs}
 use Rattle.num_theory.specs.Table.{Sum, row_of}
 use Rattle.vc_prover.specs.Search.{called, called_line, is_used, place_of, used_from}
-use Rattle.vc_prover.specs.Working.{chosen}
+use Rattle.vc_prover.specs.working.Answers.{chosen}
 use Rattle.vc_prover.proofs.Alone.{alone_contradicts}
 use Rattle.vc_prover.proofs.Columns.{Summed, Thins, contradiction_thins, named_thin, sum_thins}
 

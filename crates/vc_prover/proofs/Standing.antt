@@ -1,7 +1,6 @@
 -- How far the search of a sequent has come.
-use Rattle.std.proofs.Common.{◌≡◌, ◌∙◌, sym, ap, refl, subst, ℕ, zero, suc, ◌+◌, ◌-◌, ◌<◌, ◌≤◌, ltb, ◌&&◌, Bool, true, false, List, [], ◌∷◌, ◌++◌, length, map, reverse, Option, Some, None, Result, Ok, Err, OnOk, IfErr, MatchOption, option_and_then, option_map, slice_get, sum_by, ⊎_elim, arith}
-use Rattle.std.specs.Prelude.{if◌then◌else◌}
-use Rattle.std.proofs.lemmas.Bool.{and_parts, and_from, cond-true, cond-false, cases_Bool, lt-ltb, le-ltb}
+use Rattle.std.proofs.Common.{◌≡◌, ◌∙◌, sym, ap, refl, subst, ℕ, zero, suc, ◌+◌, ◌-◌, ◌<◌, ◌≤◌, ltb, ◌&&◌, Bool, true, false, List, [], ◌∷◌, ◌++◌, length, map, reverse, Option, Some, None, Result, Ok, Err, OnOk, IfErr, MatchOption, option_and_then, option_map, slice_get, sum_by, arith}
+use Rattle.std.proofs.lemmas.Bool.{and_parts, and_from, cond-true, cond-false, lt-ltb, le-ltb}
 use Rattle.std.proofs.lemmas.List.{reverse-append}
 use Rattle.std.proofs.lemmas.List.Folds.{list_all-append}
 use Rattle.std.proofs.lemmas.List.Sums.{sum_by-append, sum_by-cons}
@@ -19,7 +18,7 @@ use Rattle.vc_prover.specs.declared.search.ProveError.{ProveError}
 use Rattle.vc_prover.specs.declared.search.ProveError.TheVariants.{Open, NoMemory}
 use Rattle.vc_prover.specs.Refusal.{IsProveRefusal}
 use Rattle.vc_prover.specs.Search.{IsFound, IsOpen, closing, go_on, is_small_sequent, mapped, most_ends, or_else, split_from, splitting, steps_for, with_step}
-use Rattle.vc_prover.specs.Working.{Closes, IsNotSplit, IsStep, IsStepRefusal, Opens, Splits}
+use Rattle.vc_prover.specs.working.Answers.{Closes, IsNotSplit, IsStep, IsStepRefusal, Opens, Splits}
 use Rattle.vc_prover.proofs.Allowing.{split_is}
 use Rattle.vc_prover.proofs.Fuel.{Moves, Progress, finished, goes_on, starts, stuck}
 

@@ -1,4 +1,4 @@
 pub mod Laws
 pub mod Refusal
 pub mod Search
-pub mod Working
+pub mod working

@@ -3,6 +3,7 @@
 ghost use Rattle.vc_prover.specs.Laws.{FoundIsLegal, OneSearch};
 
 use linear_prover::refutations_refute;
+use num_theory::rows_fit;
 
 /// A search finds one list of steps.
 pub fn one_search()
@@ -14,4 +15,5 @@ pub fn found_is_legal()
     ensures { FoundIsLegal }
 {
     refutations_refute();
+    rows_fit();
 }

@@ -5,8 +5,6 @@ mod closing;
 mod laws;
 mod linear;
 mod search;
-#[cfg(test)]
-mod tests;
 
 pub use laws::{found_is_legal, one_search};
 pub use search::{ProveError, prove};

@@ -4,7 +4,7 @@ ghost use Rattle.std.specs.Prelude.{◌≡◌, ◌+◌, ◌<◌, ◌≤◌, ◌^
 ghost use Rattle.num_theory.specs.Naming as naming;
 ghost use Rattle.vc_sequents.specs.Splitting.{less as less_of, less_eq as less_eq_of, sorts_of};
 ghost use Rattle.vc_prover.specs.Search as spec;
-ghost use Rattle.vc_prover.specs.Working.{IsTableOf, chosen, lines_over, step_by};
+ghost use Rattle.vc_prover.specs.working.Answers.{IsTableOf, chosen, lines_over, step_by};
 
 use cert_form::Step;
 use linear_prover::{RefuteError, refute};

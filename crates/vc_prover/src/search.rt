@@ -7,7 +7,7 @@ ghost use Rattle.cert_check.specs.Legality.{IsLegal, is_small as is_small_formul
 ghost use Rattle.vc_prover.specs.Refusal.{IsProveRefusal};
 ghost use Rattle.vc_prover.specs.Search.{IsFound, is_small_sequent, most_ends};
 ghost use Rattle.vc_prover.specs.Search as spec;
-ghost use Rattle.vc_prover.specs.Working.{IsNotSplit, IsStep, IsStepRefusal, Opens};
+ghost use Rattle.vc_prover.specs.working.Answers.{IsNotSplit, IsStep, IsStepRefusal, Opens};
 
 use crate::closing::closing;
 use crate::laws::found_is_legal;

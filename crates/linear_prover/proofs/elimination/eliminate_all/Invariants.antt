@@ -1,6 +1,6 @@
 use Rattle.std.proofs.Common.{◌≡◌, ◌+◌, ◌-◌, All}
 use Rattle.linear_prover.specs.Elimination.{eliminate_from}
-use Rattle.linear_prover.specs.Working.{IsRow}
+use Rattle.linear_prover.specs.working.Eliminating.{IsRow}
 use Rattle.linear_prover.proofs.elimination.eliminate_all.Given as goal
 
 abbrev pub invariant-loop-atom : goal.invariant-loop-atom

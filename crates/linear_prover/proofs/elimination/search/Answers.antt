@@ -1,7 +1,7 @@
 use Rattle.std.proofs.Common.{◌∙◌, ◌+◌, sym, ap, subst, ℕ, List, length, All, Err, arith}
 use Rattle.linear_prover.specs.declared.rows_in_hand.Combination.{Combination}
 use Rattle.linear_prover.specs.Elimination.{Numbered, numbered_from}
-use Rattle.linear_prover.specs.Working.{AreUsable, IsRow}
+use Rattle.linear_prover.specs.working.Eliminating.{AreUsable, IsRow}
 use Rattle.linear_prover.proofs.Refuting.{IsReady, numbered_rows, ready_at}
 use Rattle.linear_prover.proofs.elimination.search.Goals as goal
 

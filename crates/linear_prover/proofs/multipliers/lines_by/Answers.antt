@@ -1,6 +1,6 @@
 use Rattle.std.proofs.Common.{◌∙◌, ap, ◌∷◌, [], ◌++◌}
 use Rattle.linear_prover.specs.declared.rows_in_hand.Combination.{Combination}
-use Rattle.linear_prover.specs.Working.{line_by}
+use Rattle.linear_prover.specs.working.Eliminating.{line_by}
 use Rattle.linear_prover.proofs.Placing.{lines_turn, lines_skip}
 use Rattle.linear_prover.proofs.multipliers.lines_by.Goals as goal
 use Rattle.linear_prover.proofs.multipliers.lines_by.Goals.{then-flags-at+in_ok-put, else-flags-at}

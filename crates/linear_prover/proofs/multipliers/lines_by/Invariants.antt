@@ -1,5 +1,5 @@
 use Rattle.std.proofs.Common.{◌≡◌, map, take}
-use Rattle.linear_prover.specs.Working.{flagged, line_by}
+use Rattle.linear_prover.specs.working.Eliminating.{flagged, line_by}
 use Rattle.linear_prover.proofs.multipliers.lines_by.Given as goal
 
 abbrev pub invariant-loop-at : goal.invariant-loop-at

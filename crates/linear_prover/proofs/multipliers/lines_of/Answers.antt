@@ -2,7 +2,7 @@ use Rattle.std.proofs.Common.{◌≡◌, ◌∙◌, ◌<◌, ◌+◌, ◌^◌, s
 use Rattle.std.proofs.lemmas.Result.{IfOk-weaker}
 use Rattle.math_terms.specs.declared.name.Line.{Line}
 use Rattle.linear_prover.specs.Elimination.{lines_of, needed_by_last}
-use Rattle.linear_prover.specs.Working.{ArePlaces, flagged, line_by}
+use Rattle.linear_prover.specs.working.Eliminating.{ArePlaces, flagged, line_by}
 use Rattle.linear_prover.proofs.Placing.{places_small, lines_same}
 use Rattle.linear_prover.proofs.multipliers.lines_of.Goals as goal
 

@@ -1,7 +1,7 @@
 use Rattle.std.proofs.Common.{◌≡◌, ◌-◌, ◌∙◌, ap, subst, get_or, arith}
 use Rattle.std.proofs.lemmas.List.{get_or_default}
 use Rattle.linear_prover.specs.declared.rows_in_hand.Combination.{Combination}
-use Rattle.linear_prover.specs.Working.{marked}
+use Rattle.linear_prover.specs.working.Eliminating.{marked}
 use Rattle.linear_prover.proofs.Marking.{IsKeeping, keeping_start, keeping_turn, keeping_skip, keeping_end, closed_turn, closed_skip}
 use Rattle.linear_prover.proofs.multipliers.mark_needed.Goals as goal
 

@@ -1,5 +1,5 @@
 use Rattle.std.proofs.Common.{◌≤◌, ℕ, List, length}
-use Rattle.linear_prover.specs.Working.{AreFlags}
+use Rattle.linear_prover.specs.working.Eliminating.{AreFlags}
 use Rattle.linear_prover.proofs.Marking.{IsKeeping, IsClosedFrom}
 use Rattle.linear_prover.proofs.multipliers.mark_needed.Given as goal
 

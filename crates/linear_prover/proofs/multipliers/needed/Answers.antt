@@ -1,7 +1,7 @@
 use Rattle.std.proofs.Common.{◌≡◌, ◌-◌, ◌+◌, ◌∙◌, sym, ap, subst, true, false, [], ◌∷◌, length, replicate, reverse, set, arith}
 use Rattle.std.proofs.lemmas.List.{take_at, length-reverse}
 use Rattle.linear_prover.specs.Elimination.{kept}
-use Rattle.linear_prover.specs.Working.{AreFlags, flagged}
+use Rattle.linear_prover.specs.working.Eliminating.{AreFlags, flagged}
 use Rattle.linear_prover.proofs.Placing.{last_flag, needed_is}
 use Rattle.linear_prover.proofs.multipliers.needed.Goals as goal
 

@@ -1,7 +1,7 @@
 use Rattle.std.proofs.Common.{sym, subst, arith}
 use Rattle.std.specs.List.{All}
 use Rattle.linear_prover.specs.Elimination.{Numbered}
-use Rattle.linear_prover.specs.Working.{CanCombine}
+use Rattle.linear_prover.specs.working.Eliminating.{CanCombine}
 use Rattle.linear_prover.proofs.rows_in_hand.combine_all.Goals as goal
 
 pub combine_one-requires : goal.combine_one-requires

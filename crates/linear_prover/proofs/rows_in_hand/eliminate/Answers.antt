@@ -2,7 +2,7 @@ use Rattle.std.proofs.Common.{◌≡◌, ◌∙◌, ap, subst, sym, Bool, List}
 use Rattle.std.specs.List.{All, filter}
 use Rattle.std.proofs.lemmas.List.Elements.{All-filter, All-weaker}
 use Rattle.linear_prover.specs.Elimination.{Numbered, is_above, is_below}
-use Rattle.linear_prover.specs.Working.{CanCombine}
+use Rattle.linear_prover.specs.working.Eliminating.{CanCombine}
 use Rattle.linear_prover.proofs.rows_in_hand.eliminate.Goals as goal
 
 -- rows of two parts can be combined where all can

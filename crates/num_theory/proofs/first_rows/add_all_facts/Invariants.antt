@@ -1,6 +1,6 @@
 use Rattle.std.proofs.Common.{◌≡◌, ◌≤◌, ◌*◌, ◌-◌}
-use Rattle.num_theory.specs.Gathering.{IsFew, gathered_of}
-use Rattle.num_theory.specs.Table.{with_all_facts}
+use Rattle.num_theory.specs.Gathering.{gathered_of}
+use Rattle.num_theory.specs.Table.{IsFew, with_all_facts}
 use Rattle.num_theory.proofs.first_rows.add_all_facts.Given as goal
 
 abbrev pub invariant-loop-i : goal.invariant-loop-i

@@ -1,6 +1,6 @@
 use Rattle.std.proofs.Common.{◌≡◌, take}
-use Rattle.num_theory.specs.Gathering.{IsFew, gathered_of, with_sums}
-use Rattle.num_theory.specs.Table.{sums_from}
+use Rattle.num_theory.specs.Gathering.{gathered_of, with_sums}
+use Rattle.num_theory.specs.Table.{IsFew, sums_from}
 use Rattle.num_theory.proofs.first_rows.add_formulas.Given as goal
 
 abbrev pub invariant-loop-k : goal.invariant-loop-k

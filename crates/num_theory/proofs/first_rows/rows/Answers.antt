@@ -1,6 +1,6 @@
-use Rattle.std.proofs.Common.{◌≡◌, ◌∙◌, ap, subst}
+use Rattle.std.proofs.Common.{◌≡◌, ◌∙◌, sym, ap, subst}
 use Rattle.num_theory.specs.Gathering.{gathered_of, no_rows, with_sums}
-use Rattle.num_theory.specs.Table.{Gathered, IsRowRefusal, gathered, rows_of, sums_from, with_all_facts}
+use Rattle.num_theory.specs.Table.{Gathered, IsFew, IsRowRefusal, IsTable, gathered, rows_of, sums_from, table_of, with_all_facts}
 use Rattle.num_theory.proofs.RowMeaning.{rows_true_along}
 use Rattle.num_theory.proofs.Tables.{refusal_grows_all}
 use Rattle.num_theory.proofs.first_rows.rows.Goals as goal
@@ -22,3 +22,18 @@ returns-in_ok-table_of-in-Ok-add_all_facts-clause-meaning c =
     (c.in_ok-table_of-in-Ok-add_all_facts.ensures.0 ∙ ap (λ (g : Gathered). g.atoms) whole)
     (c.in_ok-table_of-in-Ok-add_all_facts.ensures.1 ∙ ap rows_of whole)
     (c.rows_follow.ensures 64 vars formulas)
+
+pub returns-in_ok-table_of-in-Ok-add_all_facts-clause-table : goal.returns-in_ok-table_of-in-Ok-add_all_facts-clause-table
+returns-in_ok-table_of-in-Ok-add_all_facts-clause-table c =
+    let vars = c.args.vars.now in
+    let formulas = c.args.formulas.now in
+    let table : Gathered = gathered_of c.add_all_facts.new.table in
+    let begun = c.in-Ok.ensures.0 ∙ ap (λ g. with_sums g (sums_from vars 1 formulas)) c.empty_table-table.ensures in
+    let whole : table ≡ gathered 64 vars formulas = c.in-Ok-add_all_facts.ensures.0 ∙ ap (with_all_facts 64 0) begun in
+    let is : table_of table ≡ table_of (gathered 64 vars formulas) = ap table_of whole in
+    let made : c.in_ok-table_of-in-Ok-add_all_facts.field-0 ≡ table_of table = (λ i. record {
+      atoms = c.in_ok-table_of-in-Ok-add_all_facts.ensures.0 i;
+      rows = c.in_ok-table_of-in-Ok-add_all_facts.ensures.1 i;
+      names = c.in_ok-table_of-in-Ok-add_all_facts.ensures.2 i;
+    }) in
+    subst IsTable (sym (made ∙ is)) (c.rows_fit.ensures 64 vars formulas (subst IsFew (ap (with_all_facts 64 0) begun) c.in-Ok-add_all_facts.ensures.1))

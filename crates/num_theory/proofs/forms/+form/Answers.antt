@@ -1,10 +1,10 @@
-use Rattle.std.proofs.Common.{◌≡◌, ◌∙◌, sym, ap, pos, negsuc, ◌<ℤ◌, ◌≤ℤ◌, SFits, w64, false, arith}
+use Rattle.std.proofs.Common.{◌≡◌, ◌∙◌, sym, ap, pos, ◌<ℤ◌, ◌≤ℤ◌, SFits, w64, false, arith}
 use Rattle.std.proofs.lemmas.Int.{to_z-of_z, ints}
 use Rattle.std.proofs.lemmas.Result.{IfOk-weaker}
 use Rattle.math_terms.specs.declared.term.Term.TheOpen.{Term-F}
 use Rattle.math_terms.specs.declared.term.Term.TheViews.{roll-Term}
 use Rattle.math_terms.specs.Views.{binary_node, node_of}
-use Rattle.num_theory.specs.Linear.{Form, are_zero, atom_form, constant_form, formed, is_constant, multiple, plus, times}
+use Rattle.num_theory.specs.Linear.{Form, are_zero, atom_form, constant_form, formed, is_constant, minus_one, multiple, plus, times}
 use Rattle.num_theory.specs.Making.{form_of}
 use Rattle.num_theory.proofs.Forming.{form_other, other_view, other_two, product_atom, remainder_low, remainder_high, remainder_other}
 use Rattle.num_theory.proofs.forms.+form.Goals as goal
@@ -47,8 +47,8 @@ remainder_by-returns t c = λ is number.
     let high : pos 0 <ℤ n = omega (arith, ints) in
     let number_form : form_of c.constant_form.result ≡ constant_form n = simp to_z-of_z at c.constant_form.ensures in
     let quotient : Form = atom_form (roll-Term (Term-F.Div a b)) in
-    let rounded : form_of c.multiple-rounded.result ≡ multiple (times (negsuc 0) (constant_form n)) quotient =
-    c.multiple-rounded.ensures ∙ (λ i. multiple ((c.times.ensures ∙ ap (times (negsuc 0)) number_form) i) (c.in_ok-quotient.ensures i)) in
+    let rounded : form_of c.multiple-rounded.result ≡ multiple (times minus_one (constant_form n)) quotient =
+    c.multiple-rounded.ensures ∙ (λ i. multiple ((c.times.ensures ∙ ap (times minus_one) number_form) i) (c.in_ok-quotient.ensures i)) in
     IfOk-weaker c.plus.result _ _ (λ f h. h ∙ (λ i. plus (c.in_ok-raw_form.ensures i) (rounded i)) ∙ sym (remainder_high a b n number high)) c.plus.ensures
 
 pub remainder_form-returns-in_default : goal.remainder_form-returns-in_default

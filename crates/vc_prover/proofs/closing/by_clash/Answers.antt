@@ -1,4 +1,4 @@
-use Rattle.std.proofs.Common.{◌∙◌, sym, ap, arith}
+use Rattle.std.proofs.Common.{◌∙◌, sym, ap}
 use Rattle.vc_prover.specs.Search.{clash_from}
 use Rattle.vc_prover.proofs.Firsts.{clash_here, clash_later}
 use Rattle.vc_prover.proofs.closing.by_clash.Goals as goal

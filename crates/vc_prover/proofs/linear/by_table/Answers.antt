@@ -1,5 +1,5 @@
 use Rattle.std.proofs.Common.{◌∙◌, sym, ap, Some}
-use Rattle.vc_prover.specs.Working.{step_by}
+use Rattle.vc_prover.specs.working.Answers.{step_by}
 use Rattle.vc_prover.proofs.Choosing.{by_table_found}
 use Rattle.vc_prover.proofs.linear.by_table.Goals as goal
 

@@ -1,6 +1,6 @@
 use Rattle.std.proofs.Common.{◌≡◌, map, take}
 use Rattle.num_theory.specs.Naming.{name_among}
-use Rattle.vc_prover.specs.Working.{chosen}
+use Rattle.vc_prover.specs.working.Answers.{chosen}
 use Rattle.vc_prover.proofs.linear.used_names.Given as goal
 
 abbrev pub invariant-loop-at : goal.invariant-loop-at

@@ -4,8 +4,7 @@ use Rattle.math_terms.specs.declared.name.Line.{Line}
 use Rattle.math_terms.specs.declared.name.RowName.{RowName}
 use Rattle.num_theory.specs.declared.table.RowTable.{RowTable}
 use Rattle.num_theory.specs.Naming.{name_among}
-use Rattle.num_theory.specs.Table.{Gathered, names_of, rows_of}
-use Rattle.linear_prover.specs.Refusal.{IsTable}
+use Rattle.num_theory.specs.Table.{Gathered, IsTable, names_of, rows_of}
 use Rattle.vc_sequents.specs.declared.sequent.Sequent.{Sequent}
 use Rattle.cert_form.specs.declared.cert.Step.{Step}
 use Rattle.cert_form.specs.declared.cert.Step.TheVariants as step

@@ -2,7 +2,7 @@
 use Rattle.std.specs.Prelude.{◌≡◌, ℕ, ◌+◌, ◌-◌, ◌^◌, ◌<◌, ◌≤◌, ltb, ℤ, pos, Bool, true, false, List, [], ◌∷◌, length, take, count_by, slice_index, slice_index_or, slice_set, IsTrue, Result, Ok, Err, if◌then◌else◌}
 use Rattle.math_terms.specs.declared.name.Line.{Line}
 use Rattle.num_theory.specs.declared.table.RowTable.{RowTable}
-use Rattle.num_theory.specs.Lines.{all_narrow}
+use Rattle.num_theory.specs.Rows.{all_narrow}
 use Rattle.linear_prover.specs.declared.rows_in_hand.Combination.{Combination}
 use Rattle.linear_prover.specs.declared.rows_in_hand.Hand.{Hand}
 use Rattle.linear_prover.specs.declared.rows_in_hand.Stop.{Stop}
