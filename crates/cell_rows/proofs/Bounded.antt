@@ -10,17 +10,19 @@ use Rattle.math_terms.specs.Kinds.{kind}
 use Rattle.math_terms.specs.Sorts.{is_z}
 use Rattle.math_terms.specs.Terms.{nodes, nodes_step}
 use Rattle.num_theory.specs.Lines.{narrow}
-use Rattle.num_theory.specs.Linear.{Form, Formed, Product, add_product, add_products, atom_form, clipped, formed, in_text_order, insert_product, is_constant, is_zero, linear_of, multiple, plus, product_form, remainder_by, remainder_over, scaled, shown, shown_form, text_before, times}
+use Rattle.num_theory.specs.declared.number.Number.{Number}
+use Rattle.num_theory.specs.Number.{exact, is_zero, sum}
+use Rattle.num_theory.specs.Linear.{Form, Formed, Product, RawProduct, add_product, add_products, atom_form, exact_product, formed, in_text_order, insert_product, is_constant, linear_of, minus_one, multiple, plus, product_form, remainder_by, remainder_over, scaled, shown, shown_form, text_before, times}
 use Rattle.num_theory.specs.Table.{facts_at, facts_by, facts_of, last_of, less_eq, multiple_of, num}
 use Rattle.num_theory.specs.Texts.{text}
 use Rattle.num_theory.proofs.Forming.{form_at, form_other, formed_first}
 use Rattle.num_theory.proofs.Heads.{fold_at}
-use Rattle.cell_rows.specs.Facts.{last_form, literal_of, lower_form, multiple_form, upper_form}
+use Rattle.cell_rows.specs.working.Facts.{last_form, literal_of, lower_form, multiple_form, upper_form}
 use Rattle.cell_rows.specs.RowsStand.{Row, difference_row, equation_row, fact_form, fact_row, first_row, first_row_at, goal_row, goal_row_at, second_row, second_row_at, shifted}
 use Rattle.cell_rows.proofs.Quotients.{length_form, lower_is, over_literal, upper_is}
 
 -- no atom of the products has more nodes than so many
-abbrev pub SmallProducts : ℕ → List Product → Type 0
+abbrev pub SmallProducts : {C : Type 0} → ℕ → List (C × Term) → Type 0
 SmallProducts most [] = Unit {0}
 SmallProducts most (p ∷ ps) = (nodes p.1 ≤ most) × SmallProducts most ps
 
@@ -29,7 +31,7 @@ abbrev pub SmallRow : ℕ → Option Row → Type 0
 SmallRow most None = Unit {0}
 SmallRow most (Some r) = SmallProducts most r.0
 
-pub small_more : (few many : ℕ) (ps : List Product) → few ≤ many → SmallProducts few ps → SmallProducts many ps
+pub small_more : {C : Type 0} (few many : ℕ) (ps : List (C × Term)) → few ≤ many → SmallProducts few ps → SmallProducts many ps
 small_more few many [] l h = tt
 small_more few many (p ∷ ps) l h = (omega (arith, h.0), small_more few many ps l h.1)
 
@@ -39,29 +41,33 @@ row_more few many (Some r) l h = small_more few many r.0 l h
 
 module _ (most : ℕ) where
   -- products that are added, multiplied and put in order
-  add_one : (p : Product) (ps : List Product) → nodes p.1 ≤ most → SmallProducts most ps → SmallProducts most (add_product p ps)
+  add_one : (p : RawProduct) (ps : List RawProduct) → nodes p.1 ≤ most → SmallProducts most ps → SmallProducts most (add_product p ps)
   add_one p [] n h = (n, tt)
   add_one p (q ∷ qs) n h = by_test (same_term p.1 q.1) (add_one p qs n h.1)
     where
-      by_test : (b : Bool) → SmallProducts most (add_product p qs) → SmallProducts most (if b then (clipped (q.0 +ℤ p.0), q.1) ∷ qs else q ∷ add_product p qs)
+      by_test : (b : Bool) → SmallProducts most (add_product p qs) → SmallProducts most (if b then (sum q.0 p.0, q.1) ∷ qs else q ∷ add_product p qs)
       by_test true r = h
       by_test false r = (h.0, r)
 
-  add_all : (ps qs : List Product) → SmallProducts most ps → SmallProducts most qs → SmallProducts most (add_products ps qs)
+  add_all : (ps qs : List RawProduct) → SmallProducts most ps → SmallProducts most qs → SmallProducts most (add_products ps qs)
   add_all ps [] h k = h
   add_all ps (q ∷ qs) h k = add_all (add_product q ps) qs (add_one q ps k.0 h) k.1
 
-  scale_all : (k : ℤ) (ps : List Product) → SmallProducts most ps → SmallProducts most (map (scaled k) ps)
+  scale_all : (k : Number) (ps : List RawProduct) → SmallProducts most ps → SmallProducts most (map (scaled k) ps)
   scale_all k [] h = tt
   scale_all k (p ∷ ps) h = (h.0, scale_all k ps h.1)
 
-  keep_some : (test : Product → Bool) (ps : List Product) → SmallProducts most ps → SmallProducts most (filter test ps)
+  keep_some : (test : RawProduct → Bool) (ps : List RawProduct) → SmallProducts most ps → SmallProducts most (filter test ps)
   keep_some test [] h = tt
   keep_some test (p ∷ ps) h = by_test (test p) (keep_some test ps h.1)
     where
       by_test : (b : Bool) → SmallProducts most (filter test ps) → SmallProducts most (if b then p ∷ filter test ps else filter test ps)
       by_test true r = (h.0, r)
       by_test false r = r
+
+  exact_small : (ps : List RawProduct) → SmallProducts most ps → SmallProducts most (map exact_product ps)
+  exact_small [] h = tt
+  exact_small (p ∷ ps) h = (h.0, exact_small ps h.1)
 
   put_one : (p : Product) (ps : List Product) → nodes p.1 ≤ most → SmallProducts most ps → SmallProducts most (insert_product p ps)
   put_one p [] n h = (n, tt)
@@ -79,8 +85,8 @@ module _ (most : ℕ) where
   sum_small : (f g : Form) → SmallProducts most f.products → SmallProducts most g.products → SmallProducts most (plus f g).products
   sum_small f g h k = add_all f.products g.products h k
 
-  difference_form_small : (f g : Form) → SmallProducts most f.products → SmallProducts most g.products → SmallProducts most (plus f (times (negsuc 0) g)).products
-  difference_form_small f g h k = sum_small f (times (negsuc 0) g) h (scale_all (negsuc 0) g.products k)
+  difference_form_small : (f g : Form) → SmallProducts most f.products → SmallProducts most g.products → SmallProducts most (plus f (times minus_one g)).products
+  difference_form_small f g h k = sum_small f (times minus_one g) h (scale_all minus_one g.products k)
 
   product_small : (a b : Formed) → SmallProducts most a.1.products → SmallProducts most b.1.products → nodes (roll-Term (Term-F.Mul a.0 b.0)) ≤ most → SmallProducts most (product_form a b).products
   product_small a b h k n = by_tests (is_constant b.1) (is_constant a.1)
@@ -93,7 +99,7 @@ module _ (most : ℕ) where
   module _ (a b : Formed) (first : SmallProducts most a.1.products) (quotient : nodes (roll-Term (Term-F.Div a.0 b.0)) ≤ most) (remainder : nodes (roll-Term (Term-F.Mod a.0 b.0)) ≤ most) where
     remainder_by_small : (n : ℤ) → SmallProducts most (remainder_by a b n).products
     remainder_by_small (pos zero) = (remainder, tt)
-    remainder_by_small (pos (suc n)) = sum_small a.1 (multiple (times (negsuc 0) b.1) (atom_form (roll-Term (Term-F.Div a.0 b.0)))) first (quotient, tt)
+    remainder_by_small (pos (suc n)) = sum_small a.1 (multiple (times minus_one b.1) (atom_form (roll-Term (Term-F.Div a.0 b.0)))) first (quotient, tt)
     remainder_by_small (negsuc n) = (remainder, tt)
 
     remainder_small : (x : Term-F Term) → SmallProducts most (remainder_over a b x).products
@@ -112,8 +118,8 @@ module _ (most : ℕ) where
   shown_small : (f : Form) → SmallProducts most f.products → SmallRow most (shown_form f)
   shown_small f h = by_test f.is_narrow
     where
-      by_test : (b : Bool) → SmallRow most (if b then Some (shown f.products, f.constant) else None)
-      by_test true = put_all (filter (λ p. not (is_zero p.0)) f.products) (keep_some (λ p. not (is_zero p.0)) f.products h)
+      by_test : (b : Bool) → SmallRow most (if b then Some (shown f.products, exact f.constant) else None)
+      by_test true = put_all (map exact_product (filter (λ p. not (is_zero p.0)) f.products)) (exact_small (filter (λ p. not (is_zero p.0)) f.products) (keep_some (λ p. not (is_zero p.0)) f.products h))
       by_test false = tt
 
 itself : (t : Term) → SmallProducts (nodes t) (atom_form t).products
@@ -211,7 +217,7 @@ module _ (q : Term) (atom : (formed q).1 ≡ atom_form q) (t : Term) (less : nod
   quotient_small : (n : ℤ) → SmallFacts (nodes q) (facts_by q t n)
   quotient_small (pos zero) = tt
   quotient_small (pos (suc n)) = (
-    fact_small (nodes q) (less_eq (multiple_of (pos (suc n)) q) t) (lower_form (pos (suc n)) q t) (lower_is q atom (pos (suc n)) t) (sum_small (nodes q) (formed t).1 (times (negsuc 0) (multiple_form (pos (suc n)) q)) divided_small (omega arith, tt)),
+    fact_small (nodes q) (less_eq (multiple_of (pos (suc n)) q) t) (lower_form (pos (suc n)) q t) (lower_is q atom (pos (suc n)) t) (sum_small (nodes q) (formed t).1 (times minus_one (multiple_form (pos (suc n)) q)) divided_small (omega arith, tt)),
     (
       fact_small (nodes q) (less_eq t (last_of (pos (suc n)) q)) (upper_form (pos (suc n)) q t) (upper_is q atom (pos (suc n)) t) (difference_form_small (nodes q) (last_form (pos (suc n)) q) (formed t).1 (omega arith, tt) divided_small),
       tt,

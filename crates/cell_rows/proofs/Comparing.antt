@@ -1,5 +1,6 @@
 -- The rows of formulas, by their cells.
 use Rattle.std.proofs.Common.{◌≡◌, ◌∙◌, sym, ap, refl, subst, ℕ, ◌+◌, ◌==◌, ◌≤◌, Bool, true, false, ◌&&◌, ◌||◌, if◌then◌else◌, ◌↔◌, List, Option, Some, None, Result, Ok, Err, slice_get, IsTrue, arith}
+use Rattle.std.proofs.Math.Bool.{and_comm}
 use Rattle.std.proofs.lemmas.Bool.{false≢true}
 use Rattle.math_terms.specs.declared.descriptor.Sort.{Sort}
 use Rattle.math_terms.specs.declared.descriptor.Sort.TheOpen.{Sort-F}
@@ -42,88 +43,19 @@ compares k = (k == 20) || (k == 19) || (k == 18)
 
 -- no second row, and no row of a goal
 no_equation : (vars : List Sort) (x : Term-F Term) → (form x == 18) ≡ false → second_row_at vars x ≡ None
-no_equation vars (Term-F.Num n) h = refl
-no_equation vars (Term-F.Truth b) h = refl
-no_equation vars Term-F.MinInt h = refl
-no_equation vars Term-F.MaxInt h = refl
-no_equation vars (Term-F.Var k) h = refl
-no_equation vars (Term-F.Add x y) h = refl
-no_equation vars (Term-F.Sub x y) h = refl
-no_equation vars (Term-F.Mul x y) h = refl
-no_equation vars (Term-F.Div x y) h = refl
-no_equation vars (Term-F.Mod x y) h = refl
-no_equation vars (Term-F.Len x) h = refl
-no_equation vars Term-F.Empty h = refl
-no_equation vars (Term-F.Single x) h = refl
-no_equation vars (Term-F.Cat x y) h = refl
-no_equation vars (Term-F.Reverse x) h = refl
-no_equation vars (Term-F.Part i j x) h = refl
-no_equation vars (Term-F.Tuple parts) h = refl
-no_equation vars (Term-F.Proj k x) h = refl
 no_equation vars (Term-F.Eq x y) h = cc
-no_equation vars (Term-F.Less x y) h = refl
-no_equation vars (Term-F.LessEq x y) h = refl
-no_equation vars (Term-F.Not x) h = refl
-no_equation vars (Term-F.And x y) h = refl
-no_equation vars (Term-F.Or x y) h = refl
-no_equation vars (Term-F.Implies x y) h = refl
-no_equation vars (Term-F.Initial k x) h = refl
+no_equation vars x h = refl
 
 no_order : (x : Term-F Term) → ((form x == 19) || (form x == 20)) ≡ false → goal_row_at x ≡ None
-no_order (Term-F.Num n) h = refl
-no_order (Term-F.Truth b) h = refl
-no_order Term-F.MinInt h = refl
-no_order Term-F.MaxInt h = refl
-no_order (Term-F.Var k) h = refl
-no_order (Term-F.Add x y) h = refl
-no_order (Term-F.Sub x y) h = refl
-no_order (Term-F.Mul x y) h = refl
-no_order (Term-F.Div x y) h = refl
-no_order (Term-F.Mod x y) h = refl
-no_order (Term-F.Len x) h = refl
-no_order Term-F.Empty h = refl
-no_order (Term-F.Single x) h = refl
-no_order (Term-F.Cat x y) h = refl
-no_order (Term-F.Reverse x) h = refl
-no_order (Term-F.Part i j x) h = refl
-no_order (Term-F.Tuple parts) h = refl
-no_order (Term-F.Proj k x) h = refl
-no_order (Term-F.Eq x y) h = refl
 no_order (Term-F.Less x y) h = cc
 no_order (Term-F.LessEq x y) h = cc
-no_order (Term-F.Not x) h = refl
-no_order (Term-F.And x y) h = refl
-no_order (Term-F.Or x y) h = refl
-no_order (Term-F.Implies x y) h = refl
-no_order (Term-F.Initial k x) h = refl
+no_order x h = refl
 
 no_rows : (vars : List Sort) (x : Term-F Term) → compares (form x) ≡ false → first_row_at vars x ≡ None
-no_rows vars (Term-F.Num n) h = refl
-no_rows vars (Term-F.Truth b) h = refl
-no_rows vars Term-F.MinInt h = refl
-no_rows vars Term-F.MaxInt h = refl
-no_rows vars (Term-F.Var k) h = refl
-no_rows vars (Term-F.Add x y) h = refl
-no_rows vars (Term-F.Sub x y) h = refl
-no_rows vars (Term-F.Mul x y) h = refl
-no_rows vars (Term-F.Div x y) h = refl
-no_rows vars (Term-F.Mod x y) h = refl
-no_rows vars (Term-F.Len x) h = refl
-no_rows vars Term-F.Empty h = refl
-no_rows vars (Term-F.Single x) h = refl
-no_rows vars (Term-F.Cat x y) h = refl
-no_rows vars (Term-F.Reverse x) h = refl
-no_rows vars (Term-F.Part i j x) h = refl
-no_rows vars (Term-F.Tuple parts) h = refl
-no_rows vars (Term-F.Proj k x) h = refl
 no_rows vars (Term-F.Eq x y) h = cc
 no_rows vars (Term-F.Less x y) h = cc
 no_rows vars (Term-F.LessEq x y) h = cc
-no_rows vars (Term-F.Not x) h = refl
-no_rows vars (Term-F.And x y) h = refl
-no_rows vars (Term-F.Or x y) h = refl
-no_rows vars (Term-F.Implies x y) h = refl
-no_rows vars (Term-F.Initial k x) h = refl
+no_rows vars x h = refl
 
 module _ (cells : List Cell) (t : Term) (at : ℕ) (c : Cell) (at_is : slice_get cells at ≡ Some c) (standing : stands cells t at ≡ true) where
   pub none_at : (vars : List Sort) → (c.form == 20) ≡ false → (c.form == 19) ≡ false → (c.form == 18) ≡ false → first_row vars t ≡ None
@@ -145,14 +77,8 @@ pub of_sides : (cells : List Cell) (at : Term-F Term → Option Row) (t : Term) 
 of_sides cells at t node c p row r marks s same m few h =
     row_widened cells row (at (out-Term t)) m (nodes t) r marks (same ∙ ap at (sym (ap out-Term s.term_is ∙ out-roll-Term (node s.left s.right)))) (omega (arith, s.nodes_are)) h
 
-and_exchanged : (a b : Bool) → (a && b) ≡ (b && a)
-and_exchanged true true = refl
-and_exchanged true false = refl
-and_exchanged false true = refl
-and_exchanged false false = refl
-
 pub equation_exchanged : (vars : List Sort) (a b : Term) (row : Option Row) → equation_row vars a b row ≡ equation_row vars b a row
-equation_exchanged vars a b row = ap (λ (x : Bool). if x then row else None) (and_exchanged (is_z (kind vars a)) (is_z (kind vars b)))
+equation_exchanged vars a b row = ap (λ (x : Bool). if x then row else None) (and_comm (is_z (kind vars a)) (is_z (kind vars b)))
 
 pub equation_is : (vars : List Sort) (a b : Term) (row : Option Row) → (is_z (kind vars a) && is_z (kind vars b)) ≡ true → row ≡ equation_row vars a b row
 equation_is vars a b row e = sym (ap (λ (x : Bool). if x then row else None) e)

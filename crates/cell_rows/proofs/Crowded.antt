@@ -16,11 +16,12 @@ use Rattle.term_cells.specs.Standing.{stands}
 use Rattle.term_cells.proofs.Lasting.{stands_inside}
 use Rattle.term_cells.proofs.Telling.{stands_tells}
 use Rattle.cell_rows.specs.declared.difference.CellRow.{CellRow}
-use Rattle.cell_rows.specs.AtomsStand.{AtomsOrShort, AtomsStand, with_fact_rows, with_row}
+use Rattle.term_cells.specs.Placed.{AllStand}
+use Rattle.cell_rows.specs.working.Atoms.{AtomsOrShort, with_fact_rows, with_row}
 use Rattle.cell_rows.specs.Forms.{Mark, ProductsStand}
 use Rattle.cell_rows.specs.RowsStand.{Row, RowStands, fact_row}
-use Rattle.cell_rows.specs.Small.{Small}
-use Rattle.cell_rows.specs.Tame.{Tame}
+use Rattle.cell_rows.specs.working.Small.{Small}
+use Rattle.cell_rows.specs.working.Tame.{Tame}
 use Rattle.cell_rows.proofs.Bounded.{SmallFacts, SmallProducts, SmallRow}
 use Rattle.cell_rows.proofs.Places.{atoms_counted, atoms_push}
 
@@ -38,7 +39,7 @@ same_term_equivalence = record {
 
 module _ (cells : List Cell) where
   -- different terms stand at different places
-  first_apart : (t : Term) (p : ℕ) → stands cells t p ≡ true → (ts : List Term) (ps : List ℕ) → AtomsStand cells ts ps → AllByRecursion (λ u. same_term t u ≡ false) ts → AllByRecursion (λ q. (p == q) ≡ false) ps
+  first_apart : (t : Term) (p : ℕ) → stands cells t p ≡ true → (ts : List Term) (ps : List ℕ) → AllStand cells ts ps → AllByRecursion (λ u. same_term t u ≡ false) ts → AllByRecursion (λ q. (p == q) ≡ false) ps
   first_apart t p s [] [] h d = tt
   first_apart t p s [] (q ∷ ps) h d = absurd h
   first_apart t p s (u ∷ ts) [] h d = absurd h
@@ -47,7 +48,7 @@ module _ (cells : List Cell) where
     first_apart t p s ts ps h.1 d.1,
   )
 
-  places_apart : (ts : List Term) (ps : List ℕ) → AtomsStand cells ts ps → IsDistinct same_term ts → IsDistinct (λ p q. p == q) ps
+  places_apart : (ts : List Term) (ps : List ℕ) → AllStand cells ts ps → IsDistinct same_term ts → IsDistinct (λ p q. p == q) ps
   unfolding IsDistinct
   places_apart [] [] h d = tt
   places_apart [] (p ∷ ps) h d = absurd h
@@ -55,7 +56,7 @@ module _ (cells : List Cell) where
   places_apart (t ∷ ts) (p ∷ ps) h d = (first_apart t p h.0 ts ps h.1 d.0, places_apart ts ps h.1 d.1)
 
   -- and at places of cells
-  places_within : (ts : List Term) (ps : List ℕ) → AtomsStand cells ts ps → (q : ℕ) → list_any (λ p. q == p) ps ≡ true → q < length cells
+  places_within : (ts : List Term) (ps : List ℕ) → AllStand cells ts ps → (q : ℕ) → list_any (λ p. q == p) ps ≡ true → q < length cells
   places_within [] [] h q e = absurd (false≢true e)
   places_within [] (p ∷ ps) h q e = absurd h
   places_within (t ∷ ts) [] h q e = absurd h
@@ -66,12 +67,12 @@ module _ (cells : List Cell) where
       by_test false is f rest = rest f
 
   -- so there are no more of them than cells
-  pub not_crowded : (ts : List Term) (ps : List ℕ) → AtomsStand cells ts ps → IsDistinct same_term ts → length ts ≤ length cells
+  pub not_crowded : (ts : List Term) (ps : List ℕ) → AllStand cells ts ps → IsDistinct same_term ts → length ts ≤ length cells
   not_crowded ts ps h d = omega (arith, atoms_counted cells ts ps h, length-le_from_distinct_below ps (length cells) (places_apart ts ps h d) (places_within ts ps h))
 
   -- where atoms stand, those of a row stand with them
   abbrev StandSomewhere : List Term → Type 0
-  StandSomewhere ts = (ps : List ℕ) × AtomsStand cells ts ps
+  StandSomewhere ts = (ps : List ℕ) × AllStand cells ts ps
 
   atom_somewhere : (ts : List Term) (t : Term) (p : ℕ) → stands cells t p ≡ true → StandSomewhere ts → StandSomewhere (with_atom ts t)
   atom_somewhere ts t p s h = by_test (list_any (same_term t) ts)
@@ -127,7 +128,7 @@ module _ (most : ℕ) where
   tame_facts ts (f ∷ fs) s h = tame_facts (with_row ts (fact_row f)) fs s.1 (tame_row ts (fact_row f) s.0 h)
 
 -- So a row's atoms find places, where there are as many as cells.
-pub row_places : (cells : List Cell) (ts : List Term) (ps : List ℕ) (r : Option Row) (raw : Option CellRow) (marks : List Mark) (most : ℕ) → AtomsStand cells ts ps → RowStands cells r raw marks → SmallRow most r → Tame most ts →
+pub row_places : (cells : List Cell) (ts : List Term) (ps : List ℕ) (r : Option Row) (raw : Option CellRow) (marks : List Mark) (most : ℕ) → AllStand cells ts ps → RowStands cells r raw marks → SmallRow most r → Tame most ts →
     (o : Option ℕ) (places : List ℕ) → AtomsOrShort cells (with_row ts r) o places → length cells ≤ length places → (A : Type 0) → IfNone o A
 row_places cells ts ps r raw marks most h s small tame (Some n) places a l A = tt
 row_places cells ts ps r raw marks most h s small tame None places a l A =

@@ -2,7 +2,7 @@
 use Rattle.std.proofs.Common.{◌≡◌, ◌∙◌, sym, ap, refl, ℕ, suc, ◌-◌, ℤ, Bool, false, List, [], ◌∷◌, length, map, take, slice_get, Option, Some, None, Ok, arith}
 use Rattle.std.proofs.lemmas.List.{take_all}
 use Rattle.num_theory.specs.Lines.{ends_in_contradiction, is_contradiction, is_refuted}
-use Rattle.cell_rows.specs.RowsIn.{LinesFound, RowsIn}
+use Rattle.cell_rows.specs.working.RowsIn.{LinesFound, RowsIn}
 
 module _ (width : ℕ) where
   no_end : (places : List (List ℤ)) → slice_get places (length places - 1) ≡ None → ends_in_contradiction (map (take width) places) ≡ false

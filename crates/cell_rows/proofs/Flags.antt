@@ -1,5 +1,5 @@
 -- Flags of atoms, and columns.
-use Rattle.std.proofs.Common.{◌≡◌, ◌∙◌, sym, ap, refl, subst, ℕ, suc, ◌+◌, ◌-◌, ◌<◌, Bool, true, false, ◌||◌, List, [], ◌∷◌, ◌++◌, slice_get, length, map, get_or, set, take, drop, Option, Some, None, option_and_then, if◌then◌else◌, arith}
+use Rattle.std.proofs.Common.{◌≡◌, ◌∙◌, sym, ap, refl, subst, ℕ, suc, ◌+◌, ◌-◌, ◌<◌, Bool, true, false, ◌||◌, List, [], ◌∷◌, ◌++◌, length, map, get_or, set, take, drop, Option, Some, None, option_and_then, if◌then◌else◌, arith}
 use borrow.Rule.Slice.PartMut.{put_mid}
 use Rattle.std.specs.List.{filter}
 use Rattle.std.proofs.lemmas.List.{append-nil, drop_all, take_rest}
@@ -10,9 +10,8 @@ use Rattle.num_theory.specs.Naming.{find_row, find_rows, occurs}
 use Rattle.num_theory.specs.Table.{Sum}
 use Rattle.term_cells.specs.declared.cell.Cell.{Cell}
 use Rattle.term_cells.specs.Standing.{stands}
-use Rattle.cell_rows.specs.AtomsStand.{AtomsStand}
-use Rattle.cell_rows.specs.Columns.{RowUsed, UsedIs, has_product}
-use Rattle.cell_rows.specs.Finding.{unnamed}
+use Rattle.term_cells.specs.Placed.{AllStand}
+use Rattle.cell_rows.specs.working.Columns.{RowUsed, UsedIs, has_product}
 use Rattle.cell_rows.proofs.Places.{FirstAtom, FirstProduct}
 use Rattle.cell_rows.specs.declared.difference.CellRow.{CellRow}
 use Rattle.cell_rows.specs.Forms.{Mark, ProductsStand}
@@ -63,26 +62,17 @@ module _ (cells : List Cell) (ts : List Term) (test : Term → Bool) (places : L
   pub no_column : (columns : List ℕ) → test f.first ≡ true → columns ≡ [] → length columns < length (filter test ts)
   no_column columns e none = omega (arith, ap length (left_in e), ap length none)
 
-  pub one_column : (columns new : List ℕ) (v n : ℕ) → test f.first ≡ true → 0 < length columns → stands cells f.first v ≡ true → AtomsStand cells (filter test f.rest) (take n new) →
-      AtomsStand cells (filter test ts) (take (n + 1) (put_mid 1 (length (set columns 0 v) - 1) (set columns 0 v) new))
+  pub one_column : (columns new : List ℕ) (v n : ℕ) → test f.first ≡ true → 0 < length columns → stands cells f.first v ≡ true → AllStand cells (filter test f.rest) (take n new) →
+      AllStand cells (filter test ts) (take (n + 1) (put_mid 1 (length (set columns 0 v) - 1) (set columns 0 v) new))
   one_column columns new v n e room s rest =
       let more : suc n ≡ n + 1 = omega arith in
-      subst (λ x. AtomsStand cells x (take (n + 1) (put_mid 1 (length (set columns 0 v) - 1) (set columns 0 v) new))) (sym (left_in e))
-      (subst (λ x. AtomsStand cells (f.first ∷ filter test f.rest) (take (n + 1) x)) (sym (one_then columns v new room))
-      (subst (λ j. AtomsStand cells (f.first ∷ filter test f.rest) (take j (v ∷ new))) more (s, rest)))
+      subst (λ x. AllStand cells x (take (n + 1) (put_mid 1 (length (set columns 0 v) - 1) (set columns 0 v) new))) (sym (left_in e))
+      (subst (λ x. AllStand cells (f.first ∷ filter test f.rest) (take (n + 1) x)) (sym (one_then columns v new room))
+      (subst (λ j. AllStand cells (f.first ∷ filter test f.rest) (take j (v ∷ new))) more (s, rest)))
 
   pub short_columns : (columns new : List ℕ) (v : ℕ) → test f.first ≡ true → 0 < length columns → length new < length (filter test f.rest) →
       length (put_mid 1 (length (set columns 0 v) - 1) (set columns 0 v) new) < length (filter test ts)
   short_columns columns new v e room short = omega (arith, ap length (left_in e), ap length (one_then columns v new room), short)
-
--- the rows of names, one after another
-pub found_rows : (n : ℕ) (sums : List Sum) (name : RowName) (names : List RowName) (ts : List Term) (used : List Bool) (o : Option Sum) (rest : Option (List Sum)) (before : List Sum) (found : Bool) →
-    find_row n name sums ≡ o → find_rows n sums names ≡ rest → rest ≡ Some before → RowUsed (unnamed o) ts (occurs before) found used → UsedIs (find_rows n sums (name ∷ names)) ts found used
-found_rows n sums name names ts used None rest before found e f g h =
-    subst (λ x. UsedIs x ts found used) (sym (ap (λ x. option_and_then (λ s. option_and_then (λ ss. Some (s ∷ ss)) (find_rows n sums names)) x) e)) h
-found_rows n sums name names ts used (Some s) rest before found e f g h =
-    subst (λ x. UsedIs x ts found used)
-    (sym (ap (λ x. option_and_then (λ r. option_and_then (λ ss. Some (r ∷ ss)) (find_rows n sums names)) x) e ∙ ap (λ x. option_and_then (λ ss. Some (s ∷ ss)) x) (f ∙ g))) h
 
 pub unfound_rows : (n : ℕ) (sums : List Sum) (name : RowName) (names : List RowName) → find_rows n sums names ≡ None → find_rows n sums (name ∷ names) ≡ None
 unfound_rows n sums name names e = by_row (find_row n name sums)
@@ -95,27 +85,6 @@ unfound_rows n sums name names e = by_row (find_row n name sums)
 pub used_before : (o : Option (List Sum)) (ts : List Term) (found : Bool) (used : List Bool) → UsedIs o ts found used → found ≡ true → (named : List Sum) × (o ≡ Some named) × (used ≡ map (occurs named) ts)
 used_before None ts found used h e = cc
 used_before (Some named) ts found used h e = (named, refl, h.1)
-
-pub not_used_before : (o : Option (List Sum)) (ts : List Term) (found : Bool) (used : List Bool) → UsedIs o ts found used → found ≡ false → o ≡ None
-not_used_before None ts found used h e = refl
-not_used_before (Some named) ts found used h e =
-    let t = h.0 in
-    cc
-
--- a list whose first item is known
-pub split_first : {A : Type 0} (xs : List A) (x : A) → slice_get xs 0 ≡ Some x → xs ≡ x ∷ take (length xs - 1) (drop 1 xs)
-split_first [] x e = cc
-split_first (y ∷ xs) x e =
-    let same : y ≡ x = cc in
-    λ i. same i ∷ sym (take_rest (y ∷ xs) 1) i
-
-pub no_first : {A : Type 0} (xs : List A) → slice_get xs 0 ≡ None → xs ≡ []
-no_first [] e = refl
-no_first (y ∷ xs) e = cc
-
-pub no_names_used : (n : ℕ) (sums : List Sum) (names : List RowName) (ts : List Term) (used : List Bool) → names ≡ [] → used ≡ map (λ t. false) ts → UsedIs (find_rows n sums names) ts true used
-no_names_used n sums [] ts used e h = (refl, h)
-no_names_used n sums (name ∷ names) ts used e h = cc
 
 -- the flags of a row that is there
 pub row_used : (cells : List Cell) (r : Option Row) (row : CellRow) (o : Option CellRow) (ms : List Mark) (ts : List Term) (before : Term → Bool) (new : List Bool) → o ≡ Some row → RowStands cells r o ms →

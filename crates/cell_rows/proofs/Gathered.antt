@@ -6,7 +6,8 @@ use Rattle.num_theory.specs.Naming.{most_atoms, negated_goal, rows_at_hand}
 use Rattle.num_theory.specs.Table.{Gathered, atoms_of, facts_of, sums_from, with_all_facts, with_facts}
 use Rattle.term_cells.specs.declared.cell.Cell.{Cell}
 use Rattle.term_cells.specs.Standing.{stands}
-use Rattle.cell_rows.specs.AtomsStand.{AtomsFound, AtomsOrShort, AtomsStand, with_fact_rows, with_row}
+use Rattle.term_cells.specs.Placed.{AllStand}
+use Rattle.cell_rows.specs.working.Atoms.{AtomsFound, AtomsOrShort, with_fact_rows, with_row}
 use Rattle.cell_rows.specs.RowsStand.{goal_row}
 use Rattle.cell_rows.proofs.Summing.{atoms_append, atoms_named, facts_atoms, facts_compared, goal_named, sums_append}
 use Rattle.math_terms.specs.declared.name.RowName.TheVariants.{Hyp}
@@ -17,14 +18,14 @@ found cells ts (Some n) places h = h
 
 module _ (cells : List Cell) where
   -- the atom at a place
-  pub atom_at : (ts : List Term) (ps : List ℕ) (i : ℕ) (d : ℕ) → AtomsStand cells ts ps → i < length ps → (t : Term) × (slice_get ts i ≡ Some t) × (stands cells t (get_or ps i d) ≡ true)
+  pub atom_at : (ts : List Term) (ps : List ℕ) (i : ℕ) (d : ℕ) → AllStand cells ts ps → i < length ps → (t : Term) × (slice_get ts i ≡ Some t) × (stands cells t (get_or ps i d) ≡ true)
   atom_at [] [] i d h l = absurd (omega arith)
   atom_at [] (p ∷ ps) i d h l = absurd h
   atom_at (t ∷ ts) [] i d h l = absurd h
   atom_at (t ∷ ts) (p ∷ ps) zero d h l = (t, refl, h.0)
   atom_at (t ∷ ts) (p ∷ ps) (suc i) d h l = atom_at ts ps i d h.1 (omega arith)
 
-  pub no_atom_at : (ts : List Term) (ps : List ℕ) (i : ℕ) → AtomsStand cells ts ps → length ps ≤ i → slice_get ts i ≡ None
+  pub no_atom_at : (ts : List Term) (ps : List ℕ) (i : ℕ) → AllStand cells ts ps → length ps ≤ i → slice_get ts i ≡ None
   no_atom_at [] [] i h l = refl
   no_atom_at [] (p ∷ ps) i h l = absurd h
   no_atom_at (t ∷ ts) [] i h l = absurd h

@@ -19,3 +19,5 @@ pub mod Tamed
 pub mod Ending
 pub mod Narrowing
 pub mod Rooms
+pub mod Looking
+pub mod Shifting

@@ -1,33 +1,30 @@
 -- Rows of numbers by columns.
-use Rattle.std.proofs.Common.{◌≡◌, ◌∙◌, sym, ap, refl, subst, ℕ, suc, ◌-◌, ◌<◌, ℤ, Bool, true, false, List, [], ◌∷◌, length, map, get_or, set, take, drop, Option, Some, None, option_and_then, Result, Ok, Err, IfOk, OnErr, if◌then◌else◌, length-drop, arith}
+use Rattle.std.proofs.Common.{◌≡◌, ◌∙◌, sym, ap, refl, subst, ℕ, suc, ◌<◌, ℤ, Bool, true, false, List, [], ◌∷◌, length, get_or, set, take, Option, Some, None, option_and_then, Result, Ok, Err, OnErr, if◌then◌else◌, arith}
 use Rattle.std.proofs.lemmas.Bool.{and_parts}
-use Rattle.std.proofs.lemmas.List.{take_rest}
-use borrow.Rule.Slice.PartMut.{put_mid}
 use Rattle.math_terms.specs.declared.name.RowName.{RowName}
 use Rattle.math_terms.specs.declared.term.Term.{Term}
 use Rattle.math_terms.specs.Heads.{same_term}
 use Rattle.num_theory.specs.Lines.{narrow}
-use Rattle.num_theory.specs.Linear.{Product, narrow_products}
+use Rattle.num_theory.specs.declared.number.Number.TheVariants.{Exact}
+use Rattle.num_theory.specs.Linear.{Product}
 use Rattle.num_theory.specs.Naming.{find_row, find_rows}
 use Rattle.num_theory.specs.Table.{Sum, coefficient}
 use Rattle.term_cells.specs.declared.cell.Cell.{Cell}
 use Rattle.cell_rows.specs.declared.difference.CellRow.{CellRow}
-use Rattle.cell_rows.specs.Finding.{unnamed}
+use Rattle.cell_rows.specs.working.Finding.{unnamed}
 use Rattle.cell_rows.specs.Forms.{Mark, ProductsStand}
-use Rattle.cell_rows.specs.RowsIn.{RowsIn}
-use Rattle.cell_rows.specs.RowsStand.{RowStands}
-use Rattle.cell_rows.proofs.Flags.{one_then, rest_set}
+use Rattle.cell_rows.specs.RowsStand.{RowStands, are_narrow}
 use Rattle.cell_rows.proofs.Marks.{same_is}
 use Rattle.cell_rows.proofs.Places.{FirstProduct}
 
 -- the coefficient of the first product
-pub first_coefficient : (cells : List Cell) (ps : List Product) (ms : List Mark) (d : Mark) (f : FirstProduct cells ps ms d) → ProductsStand cells ps ms → 0 < length ms → (get_or ms 0 d).0 ≡ f.first.0
+pub first_coefficient : (cells : List Cell) (ps : List Product) (ms : List Mark) (d : Mark) (f : FirstProduct cells ps ms d) → ProductsStand cells ps ms → 0 < length ms → (get_or ms 0 d).0 ≡ Exact f.first.0
 first_coefficient cells ps [] d f h l = absurd (omega arith)
 first_coefficient cells [] (m ∷ ms) d f h l = absurd h
 first_coefficient cells (p ∷ ps) (m ∷ ms) d f h l =
     let rest : p ∷ ps ≡ f.first ∷ f.rest = f.same in
     let same : p ≡ f.first = cc in
-    h.0 ∙ ap (λ (q : Product). q.0) same
+    h.0 ∙ ap (λ (q : Product). Exact q.0) same
 
 module _ (cells : List Cell) (t : Term) (ps : List Product) (ms : List Mark) (d : Mark) (f : FirstProduct cells ps ms d) (b : Bool) (same : (b ≡ true → t ≡ f.first.1) × (t ≡ f.first.1 → b ≡ true)) where
   pub coefficient_here : b ≡ true → coefficient t ps ≡ f.first.0
@@ -55,40 +52,23 @@ first_named n sums name names named e = parts (find_row n name sums) (find_rows 
         record { first = s; rest = ss; first_is = f; rest_is = g; same = sym same }
 
 -- the row of a name that is there
-pub named_stands : (cells : List Cell) (o : Option Sum) (s : Sum) (found : Option CellRow) (raw : CellRow) (ms : List Mark) → o ≡ Some s → found ≡ Some raw → RowStands cells (unnamed o) found ms → ProductsStand cells s.products (take raw.count ms) × (raw.constant ≡ s.constant)
+pub named_stands : (cells : List Cell) (o : Option Sum) (s : Sum) (found : Option CellRow) (raw : CellRow) (ms : List Mark) → o ≡ Some s → found ≡ Some raw → RowStands cells (unnamed o) found ms → ProductsStand cells s.products (take raw.count ms) × (raw.constant ≡ Exact s.constant)
 named_stands cells o s found raw ms e f h =
     subst (λ x. RowStands cells (unnamed (Some s)) x ms) f (subst (λ x. RowStands cells (unnamed x) found ms) e h)
 
 pub no_row : (cells : List Cell) (o : Option Sum) (s : Sum) (found : Option CellRow) (ms : List Mark) → o ≡ Some s → found ≡ None → RowStands cells (unnamed o) found ms → ⊥
 no_row cells o s found ms e f h = subst (λ x. RowStands cells (unnamed (Some s)) x ms) f (subst (λ x. RowStands cells (unnamed x) found ms) e h)
 
-module _ (width : ℕ) (row : Sum → List ℤ) where
-  pub none_filled : (n : ℕ) (sums : List Sum) (names : List RowName) (named : List Sum) (places : List (List ℤ)) → names ≡ [] → find_rows n sums names ≡ Some named → RowsIn width (length named) (map row named) places
-  none_filled n sums [] [] places e f = refl
-  none_filled n sums [] (s ∷ named) places e f = cc
-  none_filled n sums (name ∷ names) named places e f = cc
-
-  -- the first row is written, and then the others
-  pub more_filled : (first : Sum) (rest named : List Sum) (numbers : List ℤ) (places new : List (List ℤ)) → named ≡ first ∷ rest → 0 < length places → take width numbers ≡ row first → RowsIn width (length rest) (map row rest) new →
-      RowsIn width (length named) (map row named) (put_mid 1 (length (set places 0 numbers) - 1) (set places 0 numbers) new)
-  more_filled first rest named numbers places new same l e h =
-      subst (λ ss. RowsIn width (length ss) (map row ss) (put_mid 1 (length (set places 0 numbers) - 1) (set places 0 numbers) new)) (sym same)
-      (ap (λ ps. map (take width) (take (suc (length rest)) ps)) (one_then places numbers new l) ∙ (λ i. e i ∷ h i))
-
--- what follows from what a clause says of an answer
-pub if_ok : {T E P Q : Type 0} (r : Result T E) → (P → Q) → IfOk r (λ _. P) → IfOk r (λ _. Q)
-if_ok (Ok x) f h = f h
-if_ok (Err e) f h = tt
-
+-- what follows from what a clause says of an error
 pub on_err : {T E P Q : Type 0} (r : Result T E) → (P → Q) → OnErr r P → OnErr r Q
 on_err (Ok x) f h = tt
 on_err (Err e) f h = f h
 
 -- narrow products have narrow coefficients
-pub narrow_coefficient : (t : Term) (ps : List Product) → narrow_products ps ≡ true → narrow (coefficient t ps) ≡ true
+pub narrow_coefficient : (t : Term) (ps : List Product) → are_narrow ps ≡ true → narrow (coefficient t ps) ≡ true
 narrow_coefficient t [] h = refl
 narrow_coefficient t (p ∷ ps) h =
-    let parts = and_parts (narrow p.0) (narrow_products ps) h in
+    let parts = and_parts (narrow p.0) (are_narrow ps) h in
     by_test (same_term t p.1) parts.0 (narrow_coefficient t ps parts.1)
   where
     by_test : (b : Bool) → narrow p.0 ≡ true → narrow (coefficient t ps) ≡ true → narrow (if b then p.0 else coefficient t ps) ≡ true
@@ -100,12 +80,6 @@ pub one_number : (out : List ℤ) (v : ℤ) → length out ≡ 1 → set out 0 v
 one_number [] v e = absurd (omega arith)
 one_number (x ∷ []) v e = refl
 one_number (x ∷ y ∷ out) v e = absurd (omega arith)
-
--- places behind the first are as many fewer as names behind the first
-pub fewer_places : {A B : Type 0} (places : List A) (v : A) (names : List B) → 0 < length places →
-    length (take (length (set places 0 v) - 1) (drop 1 (set places 0 v))) < length (take (length names - 1) (drop 1 names)) → length places < length names
-fewer_places places v names l h =
-    omega (arith, h, ap length (rest_set places v l), length-drop 1 places, ap length (take_rest names 1), length-drop 1 names)
 
 pub names_counted : (n : ℕ) (sums : List Sum) (names : List RowName) (named : List Sum) → find_rows n sums names ≡ Some named → length names ≡ length named
 names_counted n sums [] [] e = refl

@@ -1,23 +1,23 @@
 -- Adding products to products in place: those that are not yet added lie behind.
 use Rattle.std.proofs.Common.{◌≡◌, ◌∙◌, sym, ap, subst, ℕ, ◌+◌, ◌<◌, ◌≤◌, ◌-◌, true, List, [], ◌∷◌, ◌++◌, length, get_or, set, take, drop, arith, length-take, length-drop}
-use Rattle.std.proofs.lemmas.List.{drop-drop, get_or-take, get_or-drop, take_more, take_more_set, drop-set-lt, nil_from_length}
+use Rattle.std.proofs.lemmas.List.{drop-drop, get_or-take, get_or-drop, take_more, take_more_set, drop-set-lt, drop_all}
 use Rattle.math_terms.specs.declared.term.Term.{Term}
-use Rattle.num_theory.specs.Linear.{Product, add_product, add_products}
+use Rattle.num_theory.specs.Linear.{RawProduct, add_product, add_products}
 use Rattle.term_cells.specs.declared.cell.Cell.{Cell}
 use Rattle.term_cells.specs.Standing.{stands}
-use Rattle.cell_rows.specs.Forms.{Mark, ProductsStand}
+use Rattle.cell_rows.specs.Forms.{Mark, RawStand}
 use Rattle.cell_rows.proofs.Marks.{stands_at, marks_counted}
 
 -- what is added, and what is left to add
-pub record Left (cells : List Cell) (ps qs : List Product) (k total : ℕ) (marks : List Mark) : Type 0 where
-  pub added : List Product
+pub record Left (cells : List Cell) (ps qs : List RawProduct) (k total : ℕ) (marks : List Mark) : Type 0 where
+  pub added : List RawProduct
   pub same : add_products ps qs ≡ add_products added (drop k qs)
-  pub added_stand : ProductsStand cells added (take total marks)
+  pub added_stand : RawStand cells added (take total marks)
 
 pub record Merges (cells : List Cell) (count more : ℕ) (before : List Mark) (k total : ℕ) (marks : List Mark) : Type 0 where
   pub few : total ≤ count + k
   pub rest : drop (count + k) marks ≡ drop (count + k) before
-  pub left : (ps qs : List Product) → ProductsStand cells ps (take count before) → ProductsStand cells qs (take more (drop count before)) → Left cells ps qs k total marks
+  pub left : (ps qs : List RawProduct) → RawStand cells ps (take count before) → RawStand cells qs (take more (drop count before)) → Left cells ps qs k total marks
 
 pub drop_more : {A : Type 0} (m n : ℕ) (xs ys : List A) → m ≤ n → drop m xs ≡ drop m ys → drop n xs ≡ drop n ys
 drop_more m n xs ys l e =
@@ -35,8 +35,8 @@ module _ (cells : List Cell) (count more : ℕ) (before : List Mark) (room : cou
       zero_more = omega arith
 
   pub merges_more : (next : ℕ) (after : List Mark) (d : Mark) → next ≤ total + 1 → drop (total + 1) after ≡ drop (total + 1) marks →
-      ((t : Term) (ps : List Product) → stands cells t (get_or marks (count + k) d).1 ≡ true → ProductsStand cells ps (take total marks) →
-      ProductsStand cells (add_product ((get_or marks (count + k) d).0, t) ps) (take next after)) →
+      ((t : Term) (ps : List RawProduct) → stands cells t (get_or marks (count + k) d).1 ≡ true → RawStand cells ps (take total marks) →
+      RawStand cells (add_product ((get_or marks (count + k) d).0, t) ps) (take next after)) →
       Merges cells count more before (k + 1) next after
   merges_more next after d few rest step = record {
     few = omega (arith, was.few, few);
@@ -51,19 +51,16 @@ module _ (cells : List Cell) (count more : ℕ) (before : List Mark) (room : cou
         record {
           added = add_product q.0 l.added;
           same = l.same ∙ ap (add_products l.added) q.1;
-          added_stand = subst (λ z. ProductsStand cells (add_product (z, q.0.1) l.added) (take next after)) is made;
+          added_stand = subst (λ z. RawStand cells (add_product (z, q.0.1) l.added) (take next after)) is made;
         };
   }
 
-drop_all : {A : Type 0} (n : ℕ) (xs : List A) → length xs ≤ n → drop n xs ≡ []
-drop_all n xs l = nil_from_length (drop n xs) (omega (arith, length-drop n xs))
-
 -- when all are added
-pub merged : (cells : List Cell) (ps qs : List Product) (k total more : ℕ) (marks behind : List Mark) → Left cells ps qs k total marks → ProductsStand cells qs (take more behind) → more ≤ k →
-    ProductsStand cells (add_products ps qs) (take total marks)
+pub merged : (cells : List Cell) (ps qs : List RawProduct) (k total more : ℕ) (marks behind : List Mark) → Left cells ps qs k total marks → RawStand cells qs (take more behind) → more ≤ k →
+    RawStand cells (add_products ps qs) (take total marks)
 merged cells ps qs k total more marks behind l g past =
     let size : length qs ≤ k = omega (arith, marks_counted cells qs (take more behind) g, length-take more behind) in
-    subst (λ rs. ProductsStand cells rs (take total marks)) (sym (l.same ∙ ap (add_products l.added) (drop_all k qs size))) l.added_stand
+    subst (λ rs. RawStand cells rs (take total marks)) (sym (l.same ∙ ap (add_products l.added) (drop_all k qs size))) l.added_stand
 
 -- one more of those behind is at the start
 pub moved : (count more k : ℕ) (before marks : List Mark) (d : Mark) → count + more ≤ length before → length marks ≡ length before → k < more →

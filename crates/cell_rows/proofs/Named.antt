@@ -4,6 +4,7 @@ use Rattle.std.specs.List.{AllByRecursion, flat_map, list_any}
 use Rattle.math_terms.specs.Heads.{same_term}
 use Rattle.std.proofs.lemmas.Bool.{ne_eqb, eq-eqb}
 use Rattle.std.proofs.lemmas.List.{append-nil, append_assoc}
+use Rattle.std.proofs.lemmas.Option.{slice_get_within}
 use Rattle.math_terms.specs.declared.name.RowName.{RowName}
 use Rattle.math_terms.specs.declared.name.RowName.TheVariants.{Hyp, Second, Atom, Goal}
 use Rattle.math_terms.specs.declared.descriptor.Sort.{Sort}
@@ -11,14 +12,9 @@ use Rattle.math_terms.specs.declared.term.Term.{Term}
 use Rattle.num_theory.specs.Linear.{Product}
 use Rattle.num_theory.specs.Naming.{find_row, most_atoms, name_among, negated_goal, rows_at_hand, same_name}
 use Rattle.num_theory.specs.Table.{Gathered, Sum, atoms_of, facts_of, sums_from, sums_of, sums_of_fact, sums_of_facts, with_all_facts, with_atom, with_atoms, with_facts}
-use Rattle.cell_rows.specs.Finding.{numbered, row_by_name, row_of_some, unnamed}
+use Rattle.cell_rows.specs.working.Finding.{numbered, row_by_name, row_of_some, unnamed}
 use Rattle.cell_rows.specs.RowsStand.{Row, fact_row, first_row, goal_row, second_row}
 use Rattle.cell_rows.proofs.Summing.{IsCompared, fact_named, facts_compared, formula_named, goal_named, named, sums_append}
-
-pub inside_from : {A : Type 0} (xs : List A) (i : ℕ) (x : A) → slice_get xs i ≡ Some x → i < length xs
-inside_from [] i x e = cc
-inside_from (y ∷ xs) zero x e = omega arith
-inside_from (y ∷ xs) (suc i) x e = omega (arith, inside_from xs i x e)
 
 pub past_from : {A : Type 0} (xs : List A) (i : ℕ) → slice_get xs i ≡ None → length xs ≤ i
 past_from [] i e = omega arith
@@ -290,7 +286,7 @@ module _ (vars : List Sort) (hs : List Term) (g : Term) where
           let past = past_from hs i e in
           alone (Hyp (suc i)) None (no_hyps (Hyp (suc i)) (λ q l m. (ne_eqb (suc i) q (λ z. absurd (omega arith)), refl))) refl (λ q. refl) ∙ sym (ap (option_and_then (first_row vars)) e)
       by_place (Some f) e =
-          let inside = inside_from hs i f e in
+          let inside = slice_get_within hs i f e in
           let test = names (length hs) (Hyp (suc i)) in
           let one : suc i ≡ 1 + i = omega arith in
           let it : test (Hyp (1 + i)) ≡ true = ap (same_name (Hyp (suc i))) (hyp_name (length hs) (1 + i) (omega arith)) ∙ eq-eqb (suc i) (1 + i) one in
@@ -307,7 +303,7 @@ module _ (vars : List Sort) (hs : List Term) (g : Term) where
           let past = past_from hs i e in
           alone (Second (suc i)) None (no_hyps (Second (suc i)) (λ q l m. (refl, ne_eqb (suc i) q (λ z. absurd (omega arith))))) refl (λ q. refl) ∙ sym (ap (option_and_then (second_row vars)) e)
       by_place (Some f) e =
-          let inside = inside_from hs i f e in
+          let inside = slice_get_within hs i f e in
           let test = names (length hs) (Second (suc i)) in
           let one : suc i ≡ 1 + i = omega arith in
           let other : test (Hyp (1 + i)) ≡ false = ap (same_name (Second (suc i))) (hyp_name (length hs) (1 + i) (omega arith)) in

@@ -1,6 +1,6 @@
 -- The rows of a sequent are narrow.
-use Rattle.std.proofs.Common.{◌≡◌, sym, refl, subst, ℤ, pos, negsuc, ◌+ℤ◌, Bool, true, false, not, ◌&&◌, List, [], ◌∷◌, length, take, Option, Some, None, option_and_then, if◌then◌else◌}
-use Rattle.std.specs.List.{filter, flat_map}
+use Rattle.std.proofs.Common.{◌≡◌, ◌∙◌, sym, ap, refl, subst, ℤ, pos, negsuc, ◌+ℤ◌, Bool, true, false, ◌&&◌, List, [], ◌∷◌, length, map, take, Option, Some, None, option_and_then, if◌then◌else◌}
+use Rattle.std.specs.List.{flat_map}
 use Rattle.std.proofs.lemmas.Bool.{and_parts, and_from}
 use Rattle.math_terms.specs.declared.descriptor.Sort.{Sort}
 use Rattle.math_terms.specs.declared.name.RowName.{RowName}
@@ -11,58 +11,57 @@ use Rattle.math_terms.specs.declared.term.Term.TheViews.{roll-Term, out-Term}
 use Rattle.math_terms.specs.Kinds.{kind}
 use Rattle.math_terms.specs.Sorts.{is_z}
 use Rattle.num_theory.specs.Lines.{narrow}
-use Rattle.num_theory.specs.Linear.{Form, Product, formed, in_text_order, insert_product, is_zero, linear_of, narrow_products, shown, shown_form, text_before}
+use Rattle.num_theory.specs.declared.number.Number.TheVariants.{Exact}
+use Rattle.num_theory.specs.Linear.{Form, Product, RawProduct, exact_product, formed, in_text_order, insert_product, linear_of, narrow_products, shown, shown_form, text_before}
 use Rattle.num_theory.specs.Making.{IsWellMade}
+use Rattle.num_theory.specs.Number.{exact, is_narrow}
 use Rattle.num_theory.specs.Naming.{find_row, most_atoms, rows_at_hand}
 use Rattle.num_theory.specs.Table.{Sum, facts_of}
 use Rattle.num_theory.specs.Texts.{text}
 use Rattle.num_theory.proofs.WellMade.{form_well, made_well}
-use Rattle.cell_rows.specs.Finding.{numbered, row_by_name, row_of_some, unnamed}
-use Rattle.cell_rows.specs.RowsStand.{Row, difference_row, equation_row, fact_form, fact_form_at, first_row, first_row_at, goal_row_at, second_row, second_row_at, shifted}
+use Rattle.cell_rows.specs.working.Finding.{numbered, row_by_name, row_of_some, unnamed}
+use Rattle.cell_rows.specs.RowsStand.{Row, are_narrow, difference_row, equation_row, fact_form, fact_form_at, first_row, first_row_at, goal_row_at, second_row, second_row_at, shifted}
 use Rattle.cell_rows.proofs.Named.{of_atom, of_goal, of_hyp, of_second}
+use Rattle.cell_rows.proofs.Ordering.{narrow_exact, nonzero, nonzero_narrow}
 
--- products in another order, and without some
-inserted_narrow : (p : Product) (ps : List Product) → narrow p.0 ≡ true → narrow_products ps ≡ true → narrow_products (insert_product p ps) ≡ true
+-- products in another order
+inserted_narrow : (p : Product) (ps : List Product) → narrow p.0 ≡ true → are_narrow ps ≡ true → are_narrow (insert_product p ps) ≡ true
 inserted_narrow p [] h k = and_from (narrow p.0) true h refl
 inserted_narrow p (q ∷ qs) h k =
-    let parts = and_parts (narrow q.0) (narrow_products qs) k in
-    by_test (text_before (text p.1) (text q.1)) (and_from (narrow q.0) (narrow_products (insert_product p qs)) parts.0 (inserted_narrow p qs h parts.1))
+    let parts = and_parts (narrow q.0) (are_narrow qs) k in
+    by_test (text_before (text p.1) (text q.1)) (and_from (narrow q.0) (are_narrow (insert_product p qs)) parts.0 (inserted_narrow p qs h parts.1))
   where
-    by_test : (b : Bool) → narrow_products (q ∷ insert_product p qs) ≡ true → narrow_products (if b then p ∷ q ∷ qs else q ∷ insert_product p qs) ≡ true
-    by_test true later = and_from (narrow p.0) (narrow_products (q ∷ qs)) h k
+    by_test : (b : Bool) → are_narrow (q ∷ insert_product p qs) ≡ true → are_narrow (if b then p ∷ q ∷ qs else q ∷ insert_product p qs) ≡ true
+    by_test true later = and_from (narrow p.0) (are_narrow (q ∷ qs)) h k
     by_test false later = later
 
-ordered_narrow : (ps : List Product) → narrow_products ps ≡ true → narrow_products (in_text_order ps) ≡ true
+ordered_narrow : (ps : List Product) → are_narrow ps ≡ true → are_narrow (in_text_order ps) ≡ true
 ordered_narrow [] h = refl
 ordered_narrow (p ∷ ps) h =
-    let parts = and_parts (narrow p.0) (narrow_products ps) h in
+    let parts = and_parts (narrow p.0) (are_narrow ps) h in
     inserted_narrow p (in_text_order ps) parts.0 (ordered_narrow ps parts.1)
 
-kept_narrow : (ps : List Product) → narrow_products ps ≡ true → narrow_products (filter (λ (p : Product). not (is_zero p.0)) ps) ≡ true
-kept_narrow [] h = refl
-kept_narrow (p ∷ ps) h =
-    let parts = and_parts (narrow p.0) (narrow_products ps) h in
-    by_test (not (is_zero p.0)) parts.0 (kept_narrow ps parts.1)
-  where
-    by_test : (b : Bool) → narrow p.0 ≡ true → narrow_products (filter (λ (p : Product). not (is_zero p.0)) ps) ≡ true →
-        narrow_products (if b then p ∷ filter (λ (p : Product). not (is_zero p.0)) ps else filter (λ (p : Product). not (is_zero p.0)) ps) ≡ true
-    by_test true here rest = and_from (narrow p.0) (narrow_products (filter (λ (p : Product). not (is_zero p.0)) ps)) here rest
-    by_test false here rest = rest
+exact_narrow : (ps : List RawProduct) → narrow_products ps ≡ true → are_narrow (map exact_product ps) ≡ true
+exact_narrow [] h = refl
+exact_narrow (p ∷ ps) h =
+    let parts = and_parts (is_narrow p.0) (narrow_products ps) h in
+    let here : narrow (exact p.0) ≡ true = ap is_narrow (sym (narrow_exact p.0 parts.0)) ∙ parts.0 in
+    and_from (narrow (exact p.0)) (are_narrow (map exact_product ps)) here (exact_narrow ps parts.1)
 
 -- a row that there may be, of narrow products, and of narrow products and a narrow constant
 abbrev HasNarrow : Option Row → Type 0
 HasNarrow None = Unit {0}
-HasNarrow (Some r) = narrow_products r.0 ≡ true
+HasNarrow (Some r) = are_narrow r.0 ≡ true
 
 abbrev IsNarrowRow : Option Row → Type 0
 IsNarrowRow None = Unit {0}
-IsNarrowRow (Some r) = (narrow_products r.0 ≡ true) × (narrow r.1 ≡ true)
+IsNarrowRow (Some r) = (are_narrow r.0 ≡ true) × (narrow r.1 ≡ true)
 
 shown_narrow : (f : Form) → IsWellMade f → HasNarrow (shown_form f)
 shown_narrow f h = by_test f.is_narrow h
   where
-    by_test : (b : Bool) → (b ≡ true → (narrow_products f.products ≡ true) × (narrow f.constant ≡ true)) → HasNarrow (if b then Some (shown f.products, f.constant) else None)
-    by_test true well = ordered_narrow (filter (λ (p : Product). not (is_zero p.0)) f.products) (kept_narrow f.products (well refl).0)
+    by_test : (b : Bool) → (b ≡ true → (narrow_products f.products ≡ true) × (is_narrow f.constant ≡ true)) → HasNarrow (if b then Some (shown f.products, exact f.constant) else None)
+    by_test true well = ordered_narrow (map exact_product (nonzero f.products)) (exact_narrow (nonzero f.products) (nonzero_narrow f.products (well refl).0))
     by_test false well = tt
 
 shifted_narrow : (shift : ℤ) (o : Option Row) → HasNarrow o → IsNarrowRow (shifted shift o)
@@ -86,116 +85,23 @@ equation_narrow vars a b row h = by_test (is_z (kind vars a) && is_z (kind vars 
     by_test false = tt
 
 first_narrow : (vars : List Sort) (x : Term-F Term) → IsNarrowRow (first_row_at vars x)
-first_narrow vars (Term-F.Num n) = tt
-first_narrow vars (Term-F.Truth b) = tt
-first_narrow vars Term-F.MinInt = tt
-first_narrow vars Term-F.MaxInt = tt
-first_narrow vars (Term-F.Var k) = tt
-first_narrow vars (Term-F.Add a b) = tt
-first_narrow vars (Term-F.Sub a b) = tt
-first_narrow vars (Term-F.Mul a b) = tt
-first_narrow vars (Term-F.Div a b) = tt
-first_narrow vars (Term-F.Mod a b) = tt
-first_narrow vars (Term-F.Len a) = tt
-first_narrow vars Term-F.Empty = tt
-first_narrow vars (Term-F.Single a) = tt
-first_narrow vars (Term-F.Cat a b) = tt
-first_narrow vars (Term-F.Reverse a) = tt
-first_narrow vars (Term-F.Part i j a) = tt
-first_narrow vars (Term-F.Tuple parts) = tt
-first_narrow vars (Term-F.Proj k a) = tt
 first_narrow vars (Term-F.Eq a b) = equation_narrow vars a b (difference_row (pos 0) a b) (difference_narrow (pos 0) a b)
 first_narrow vars (Term-F.Less a b) = difference_narrow (negsuc 0) a b
 first_narrow vars (Term-F.LessEq a b) = difference_narrow (pos 0) a b
-first_narrow vars (Term-F.Not a) = tt
-first_narrow vars (Term-F.And a b) = tt
-first_narrow vars (Term-F.Or a b) = tt
-first_narrow vars (Term-F.Implies a b) = tt
-first_narrow vars (Term-F.Initial k a) = tt
+first_narrow vars x = tt
 
 second_narrow : (vars : List Sort) (x : Term-F Term) → IsNarrowRow (second_row_at vars x)
-second_narrow vars (Term-F.Num n) = tt
-second_narrow vars (Term-F.Truth b) = tt
-second_narrow vars Term-F.MinInt = tt
-second_narrow vars Term-F.MaxInt = tt
-second_narrow vars (Term-F.Var k) = tt
-second_narrow vars (Term-F.Add a b) = tt
-second_narrow vars (Term-F.Sub a b) = tt
-second_narrow vars (Term-F.Mul a b) = tt
-second_narrow vars (Term-F.Div a b) = tt
-second_narrow vars (Term-F.Mod a b) = tt
-second_narrow vars (Term-F.Len a) = tt
-second_narrow vars Term-F.Empty = tt
-second_narrow vars (Term-F.Single a) = tt
-second_narrow vars (Term-F.Cat a b) = tt
-second_narrow vars (Term-F.Reverse a) = tt
-second_narrow vars (Term-F.Part i j a) = tt
-second_narrow vars (Term-F.Tuple parts) = tt
-second_narrow vars (Term-F.Proj k a) = tt
 second_narrow vars (Term-F.Eq a b) = equation_narrow vars a b (difference_row (pos 0) b a) (difference_narrow (pos 0) b a)
-second_narrow vars (Term-F.Less a b) = tt
-second_narrow vars (Term-F.LessEq a b) = tt
-second_narrow vars (Term-F.Not a) = tt
-second_narrow vars (Term-F.And a b) = tt
-second_narrow vars (Term-F.Or a b) = tt
-second_narrow vars (Term-F.Implies a b) = tt
-second_narrow vars (Term-F.Initial k a) = tt
+second_narrow vars x = tt
 
 goal_narrow : (x : Term-F Term) → IsNarrowRow (goal_row_at x)
-goal_narrow (Term-F.Num n) = tt
-goal_narrow (Term-F.Truth b) = tt
-goal_narrow Term-F.MinInt = tt
-goal_narrow Term-F.MaxInt = tt
-goal_narrow (Term-F.Var k) = tt
-goal_narrow (Term-F.Add a b) = tt
-goal_narrow (Term-F.Sub a b) = tt
-goal_narrow (Term-F.Mul a b) = tt
-goal_narrow (Term-F.Div a b) = tt
-goal_narrow (Term-F.Mod a b) = tt
-goal_narrow (Term-F.Len a) = tt
-goal_narrow Term-F.Empty = tt
-goal_narrow (Term-F.Single a) = tt
-goal_narrow (Term-F.Cat a b) = tt
-goal_narrow (Term-F.Reverse a) = tt
-goal_narrow (Term-F.Part i j a) = tt
-goal_narrow (Term-F.Tuple parts) = tt
-goal_narrow (Term-F.Proj k a) = tt
-goal_narrow (Term-F.Eq a b) = tt
 goal_narrow (Term-F.Less a b) = difference_narrow (pos 0) b a
 goal_narrow (Term-F.LessEq a b) = difference_narrow (negsuc 0) b a
-goal_narrow (Term-F.Not a) = tt
-goal_narrow (Term-F.And a b) = tt
-goal_narrow (Term-F.Or a b) = tt
-goal_narrow (Term-F.Implies a b) = tt
-goal_narrow (Term-F.Initial k a) = tt
+goal_narrow x = tt
 
-fact_well : (x : Term-F Term) → IsWellMade (fact_form_at x)
-fact_well (Term-F.Num n) = made_well true [] (pos 0)
-fact_well (Term-F.Truth b) = made_well true [] (pos 0)
-fact_well Term-F.MinInt = made_well true [] (pos 0)
-fact_well Term-F.MaxInt = made_well true [] (pos 0)
-fact_well (Term-F.Var k) = made_well true [] (pos 0)
-fact_well (Term-F.Add a b) = made_well true [] (pos 0)
-fact_well (Term-F.Sub a b) = made_well true [] (pos 0)
-fact_well (Term-F.Mul a b) = made_well true [] (pos 0)
-fact_well (Term-F.Div a b) = made_well true [] (pos 0)
-fact_well (Term-F.Mod a b) = made_well true [] (pos 0)
-fact_well (Term-F.Len a) = made_well true [] (pos 0)
-fact_well Term-F.Empty = made_well true [] (pos 0)
-fact_well (Term-F.Single a) = made_well true [] (pos 0)
-fact_well (Term-F.Cat a b) = made_well true [] (pos 0)
-fact_well (Term-F.Reverse a) = made_well true [] (pos 0)
-fact_well (Term-F.Part i j a) = made_well true [] (pos 0)
-fact_well (Term-F.Tuple parts) = made_well true [] (pos 0)
-fact_well (Term-F.Proj k a) = made_well true [] (pos 0)
-fact_well (Term-F.Eq a b) = made_well true [] (pos 0)
-fact_well (Term-F.Less a b) = made_well true [] (pos 0)
+pub fact_well : (x : Term-F Term) → IsWellMade (fact_form_at x)
 fact_well (Term-F.LessEq a b) = form_well (roll-Term (Term-F.Sub b a))
-fact_well (Term-F.Not a) = made_well true [] (pos 0)
-fact_well (Term-F.And a b) = made_well true [] (pos 0)
-fact_well (Term-F.Or a b) = made_well true [] (pos 0)
-fact_well (Term-F.Implies a b) = made_well true [] (pos 0)
-fact_well (Term-F.Initial k a) = made_well true [] (pos 0)
+fact_well x = made_well true [] (Exact (pos 0))
 
 fact_narrow : (o : Option Term) → IsNarrowRow (row_of_some o)
 fact_narrow None = tt
@@ -217,5 +123,5 @@ module _ (vars : List Sort) (hs : List Term) (g : Term) where
   by_name Goal = subst IsNarrowRow (sym (of_goal vars hs g)) (goal_narrow (out-Term g))
 
   -- a row that a name finds is narrow
-  pub found_narrow : (name : RowName) (s : Sum) → find_row (length hs) name (rows_at_hand vars hs g).sums ≡ Some s → (narrow_products s.products ≡ true) × (narrow s.constant ≡ true)
+  pub found_narrow : (name : RowName) (s : Sum) → find_row (length hs) name (rows_at_hand vars hs g).sums ≡ Some s → (are_narrow s.products ≡ true) × (narrow s.constant ≡ true)
   found_narrow name s e = subst (λ o. IsNarrowRow (unnamed o)) e (by_name name)

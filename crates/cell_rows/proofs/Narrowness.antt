@@ -1,40 +1,24 @@
--- The two ways to say that numbers are not wide, and sums of rows.
-use Rattle.std.proofs.Common.{◌≡◌, ℕ, true, List, [], ◌∷◌, ℤ, pos, negsuc, Some, None, refl, ⊎_elim, arith}
-use Rattle.std.proofs.lemmas.Bool.{and_parts, and_from, ltb-true, lt-ltb, both_ways, cases_Bool}
-use Rattle.std.proofs.lemmas.Bool.Decides.{nat_tests}
-use Rattle.num_theory.specs.Rows.{combined, IsNarrow, AllNarrow, reduced}
-use Rattle.num_theory.specs.Lines.{narrow, all_narrow, sum_of}
+-- Sums of rows.
+use Rattle.std.proofs.Common.{◌≡◌, ◌∙◌, sym, ap, refl, ℕ, Bool, true, false, List, ℤ, Option, Some, None, if◌then◌else◌}
+use Rattle.num_theory.specs.Rows.{all_narrow, combined, reduced}
+use Rattle.num_theory.specs.Lines.{sum_of}
 
-pub IsNarrow-from_narrow : (z : ℤ) → narrow z ≡ true → IsNarrow z
-IsNarrow-from_narrow (pos n) h = grind (arith, ltb-true)
-IsNarrow-from_narrow (negsuc n) h = grind (arith, ltb-true)
+module _ (p : ℕ) (a : List ℤ) (q : ℕ) (b : List ℤ) where
+  sum_if : Bool → Option (List ℤ)
+  sum_if t = if t then Some (reduced (combined p a q b)) else None
 
-pub narrow_from_IsNarrow : (z : ℤ) → IsNarrow z → narrow z ≡ true
-narrow_from_IsNarrow (pos n) h = grind (arith, lt-ltb)
-narrow_from_IsNarrow (negsuc n) h = grind (arith, lt-ltb)
+  pub sum_of-fits : {W : Type 0} (out row : List ℤ) → (all_narrow (combined p a q b) ≡ true → W × (out ≡ combined p a q b)) → (all_narrow (combined p a q b) ≡ false → ⊥) → row ≡ reduced out → sum_of p a q b ≡ Some row
+  unfolding sum_if
+  sum_of-fits {W} out row fits wide is = by_test (all_narrow (combined p a q b)) refl
+    where
+      by_test : (t : Bool) → all_narrow (combined p a q b) ≡ t → sum_of p a q b ≡ Some row
+      by_test true e = ap sum_if e ∙ ap (λ o. Some (reduced o)) (sym (fits e).1) ∙ ap Some (sym is)
+      by_test false e = absurd (wide e)
 
-pub AllNarrow-from_all_narrow : (zs : List ℤ) → all_narrow zs ≡ true → AllNarrow zs
-AllNarrow-from_all_narrow [] h = tt
-AllNarrow-from_all_narrow (z ∷ zs) h =
-    let parts = and_parts (narrow z) (all_narrow zs) h in
-    (IsNarrow-from_narrow z parts.0, AllNarrow-from_all_narrow zs parts.1)
-
-pub all_narrow_from_AllNarrow : (zs : List ℤ) → AllNarrow zs → all_narrow zs ≡ true
-all_narrow_from_AllNarrow [] h = refl
-all_narrow_from_AllNarrow (z ∷ zs) h =
-    and_from (narrow z) (all_narrow zs) (narrow_from_IsNarrow z h.0) (all_narrow_from_AllNarrow zs h.1)
-
-pub sum_of-fits : {W : Type 0} (p : ℕ) (a : List ℤ) (q : ℕ) (b out row : List ℤ) → (AllNarrow (combined p a q b) → W × (out ≡ combined p a q b)) →
-    ((AllNarrow (combined p a q b) → ⊥) → ⊥) → row ≡ reduced out → sum_of p a q b ≡ Some row
-sum_of-fits p a q b out row fits wide is =
-    ⊎_elim
-    (λ narrow. let same = (fits (AllNarrow-from_all_narrow (combined p a q b) narrow)).1 in grind (arith, nat_tests))
-    (λ wide_sum. absurd (wide (λ all. both_ways (all_narrow (combined p a q b)) wide_sum (all_narrow_from_AllNarrow (combined p a q b) all))))
-    (cases_Bool (all_narrow (combined p a q b)))
-
-pub sum_of-wide : (p : ℕ) (a : List ℤ) (q : ℕ) (b : List ℤ) → (AllNarrow (combined p a q b) → ⊥) → sum_of p a q b ≡ None
-sum_of-wide p a q b wide =
-    ⊎_elim
-    (λ narrow. absurd (wide (AllNarrow-from_all_narrow (combined p a q b) narrow)))
-    (λ wide_sum. grind (arith, nat_tests))
-    (cases_Bool (all_narrow (combined p a q b)))
+  pub sum_of-wide : (all_narrow (combined p a q b) ≡ true → ⊥) → sum_of p a q b ≡ None
+  unfolding sum_if
+  sum_of-wide wide = by_test (all_narrow (combined p a q b)) refl
+    where
+      by_test : (t : Bool) → all_narrow (combined p a q b) ≡ t → sum_of p a q b ≡ None
+      by_test true e = absurd (wide e)
+      by_test false e = ap sum_if e

@@ -1,5 +1,5 @@
 -- The form of the term at a place, by its cell.
-use Rattle.std.proofs.Common.{◌≡◌, ◌∙◌, sym, ap, refl, subst, ℕ, ◌+◌, ◌-◌, ◌≤◌, ◌==◌, ℤ, pos, negsuc, ◌≤ℤ◌, ◌<ℤ◌, Bool, true, false, not, ◌||◌, List, [], ◌∷◌, ◌++◌, length, take, drop, Option, Some, None, slice_get, arith}
+use Rattle.std.proofs.Common.{◌≡◌, ◌∙◌, sym, ap, refl, subst, ℕ, ◌+◌, ◌-◌, ◌≤◌, ◌==◌, ℤ, pos, ◌≤ℤ◌, ◌<ℤ◌, Bool, true, false, not, ◌||◌, List, [], ◌∷◌, ◌++◌, length, take, drop, Option, Some, None, slice_get, arith}
 use Rattle.std.proofs.lemmas.Grind.{common_steps}
 use lib.Signed.{le_z}
 use Rattle.std.proofs.lemmas.Int.{ints}
@@ -8,14 +8,14 @@ use Rattle.math_terms.specs.declared.term.Term.TheOpen.{Term-F}
 use Rattle.math_terms.specs.declared.term.Term.TheViews.{roll-Term, out-Term, roll-out-Term}
 use Rattle.math_terms.specs.Heads.{form, children}
 use Rattle.math_terms.specs.Terms.{nodes}
-use Rattle.num_theory.specs.Linear.{Form, Formed, formed, atom_form, constant_form, is_constant, multiple, plus, product_form, remainder_form, remainder_over, times}
+use Rattle.num_theory.specs.Linear.{Form, Formed, formed, atom_form, constant_form, is_constant, minus_one, multiple, plus, product_form, remainder_form, remainder_over, times}
 use Rattle.num_theory.proofs.Forming.{form_at, form_other, formed_first, is_other, remainder_at, remainder_high, remainder_low}
 use Rattle.term_cells.specs.declared.cell.Cell.{Cell}
 use Rattle.term_cells.specs.Growing.{HasHead}
 use Rattle.term_cells.specs.Laws.{is_plain_form}
 use Rattle.term_cells.specs.Standing.{stands, stands_below}
 use Rattle.cell_rows.specs.declared.forms.CellForm.{CellForm}
-use Rattle.cell_rows.specs.Forms.{Mark, ProductsStand, FormStands, FormOrShort}
+use Rattle.cell_rows.specs.Forms.{Mark, RawStand, FormStands, FormOrShort}
 use Rattle.term_cells.proofs.Apart.{below_from}
 use Rattle.term_cells.proofs.ByForm.{leaves_open, two_opens, its_form}
 use Rattle.term_cells.proofs.Forms.{nodes_by_list, nodes_by_two}
@@ -27,31 +27,7 @@ is_other_form k = not ((k == 0) || (k == 5) || (k == 6) || (k == 7) || (k == 9))
 other_is : (x : Term-F Term) → is_other x ≡ is_other_form (form x)
 unfolding is_other_form
 other_is (Term-F.Num n) = refl
-other_is (Term-F.Truth b) = refl
-other_is Term-F.MinInt = refl
-other_is Term-F.MaxInt = refl
-other_is (Term-F.Var k) = refl
-other_is (Term-F.Add a b) = refl
-other_is (Term-F.Sub a b) = refl
-other_is (Term-F.Mul a b) = refl
-other_is (Term-F.Div a b) = refl
-other_is (Term-F.Mod a b) = refl
-other_is (Term-F.Len a) = refl
-other_is Term-F.Empty = refl
-other_is (Term-F.Single a) = refl
-other_is (Term-F.Cat a b) = refl
-other_is (Term-F.Reverse a) = refl
-other_is (Term-F.Part i j a) = refl
-other_is (Term-F.Tuple parts) = refl
-other_is (Term-F.Proj k a) = refl
-other_is (Term-F.Eq a b) = refl
-other_is (Term-F.Less a b) = refl
-other_is (Term-F.LessEq a b) = refl
-other_is (Term-F.Not a) = refl
-other_is (Term-F.And a b) = refl
-other_is (Term-F.Or a b) = refl
-other_is (Term-F.Implies a b) = refl
-other_is (Term-F.Initial k a) = refl
+other_is x = refl
 
 five_tests : (a b c d e : Bool) → a ≡ false → b ≡ false → c ≡ false → d ≡ false → e ≡ false → not (a || b || c || d || e) ≡ true
 five_tests a b c d e f g h i j = λ k. not (f k || g k || h k || i k || j k)
@@ -96,7 +72,7 @@ two_at node k heads plain cells t at c e f h =
 pub widened : (cells : List Cell) (f g : Form) (m n : ℕ) (r : Option CellForm) (marks : List Mark) → f ≡ g → m ≤ n → FormOrShort cells f m r marks → FormOrShort cells g n r marks
 widened cells f g m n None marks e l h = omega arith
 widened cells f g m n (Some raw) marks e l h = record {
-  products_stand = subst (λ (x : Form). ProductsStand cells x.products (take raw.count marks)) e h.products_stand;
+  products_stand = subst (λ (x : Form). RawStand cells x.products (take raw.count marks)) e h.products_stand;
   constant_is = h.constant_is ∙ ap (λ (x : Form). x.constant) e;
   narrow_is = h.narrow_is ∙ ap (λ (x : Form). x.is_narrow) e;
   few = omega (arith, h.few);
@@ -105,7 +81,7 @@ widened cells f g m n (Some raw) marks e l h = record {
 -- What lies behind the products of a form does not matter.
 pub kept : (cells : List Cell) (f : Form) (most : ℕ) (raw : CellForm) (marks others : List Mark) → take raw.count others ≡ take raw.count marks → FormStands cells f most raw marks → FormStands cells f most raw others
 kept cells f most raw marks others e h = record {
-  products_stand = subst (ProductsStand cells f.products) (sym e) h.products_stand;
+  products_stand = subst (RawStand cells f.products) (sym e) h.products_stand;
   constant_is = h.constant_is;
   narrow_is = h.narrow_is;
   few = h.few;
@@ -143,31 +119,7 @@ product_first a b e f = rw (e, f) refl
 -- A remainder by what is no number is an atom.
 over_no_number : (a b : Formed) (x : Term-F Term) → (form x == 0) ≡ false → remainder_over a b x ≡ atom_form (roll-Term (Term-F.Mod a.0 b.0))
 over_no_number a b (Term-F.Num n) h = cc
-over_no_number a b (Term-F.Truth x) h = refl
-over_no_number a b Term-F.MinInt h = refl
-over_no_number a b Term-F.MaxInt h = refl
-over_no_number a b (Term-F.Var k) h = refl
-over_no_number a b (Term-F.Add x y) h = refl
-over_no_number a b (Term-F.Sub x y) h = refl
-over_no_number a b (Term-F.Mul x y) h = refl
-over_no_number a b (Term-F.Div x y) h = refl
-over_no_number a b (Term-F.Mod x y) h = refl
-over_no_number a b (Term-F.Len x) h = refl
-over_no_number a b Term-F.Empty h = refl
-over_no_number a b (Term-F.Single x) h = refl
-over_no_number a b (Term-F.Cat x y) h = refl
-over_no_number a b (Term-F.Reverse x) h = refl
-over_no_number a b (Term-F.Part i j x) h = refl
-over_no_number a b (Term-F.Tuple parts) h = refl
-over_no_number a b (Term-F.Proj k x) h = refl
-over_no_number a b (Term-F.Eq x y) h = refl
-over_no_number a b (Term-F.Less x y) h = refl
-over_no_number a b (Term-F.LessEq x y) h = refl
-over_no_number a b (Term-F.Not x) h = refl
-over_no_number a b (Term-F.And x y) h = refl
-over_no_number a b (Term-F.Or x y) h = refl
-over_no_number a b (Term-F.Implies x y) h = refl
-over_no_number a b (Term-F.Initial k x) h = refl
+over_no_number a b x h = refl
 
 pub remainder_no_number : (a b : Term) → (form (out-Term b) == 0) ≡ false → remainder_form (formed a) (formed b) ≡ atom_form (roll-Term (Term-F.Mod a b))
 remainder_no_number a b h =
@@ -179,7 +131,7 @@ pub remainder_by_low : (a b : Term) (n : ℤ) → out-Term b ≡ Term-F.Num n �
 remainder_by_low a b n is low = remainder_at a b (Term-F.Num n) (sym (roll-out-Term b) ∙ ap roll-Term is) ∙ remainder_low a b (roll-Term (Term-F.Mod a b)) n refl low
 
 pub remainder_by_high : (a b : Term) (n : ℤ) → out-Term b ≡ Term-F.Num n → pos 0 <ℤ n →
-    remainder_form (formed a) (formed b) ≡ plus (formed a).1 (multiple (times (negsuc 0) (constant_form n)) (atom_form (roll-Term (Term-F.Div a b))))
+    remainder_form (formed a) (formed b) ≡ plus (formed a).1 (multiple (times minus_one (constant_form n)) (atom_form (roll-Term (Term-F.Div a b))))
 remainder_by_high a b n is high =
     let at : b ≡ roll-Term (Term-F.Num n) = sym (roll-out-Term b) ∙ ap roll-Term is in
     remainder_at a b (Term-F.Num n) at ∙ remainder_high a b n at high

@@ -5,8 +5,8 @@ use Rattle.term_cells.specs.declared.cell.Cell.{Cell}
 use Rattle.term_cells.specs.Standing.{stands}
 use Rattle.cell_rows.specs.declared.difference.CellRow.{CellRow}
 use Rattle.cell_rows.specs.declared.difference.Short.{Short}
-use Rattle.cell_rows.specs.AtomsStand.{AtomsStand}
-use Rattle.cell_rows.specs.Finding.{RowFound, numbered}
+use Rattle.term_cells.specs.Placed.{AllStand}
+use Rattle.cell_rows.specs.working.Finding.{RowFound, numbered}
 use Rattle.cell_rows.specs.Forms.{Mark}
 use Rattle.cell_rows.specs.RowsStand.{Row, RowOrShort}
 
@@ -15,7 +15,7 @@ stands_found cells row most (Err e) marks h = tt
 stands_found cells row most (Ok raw) marks h = h
 
 module _ (cells : List Cell) where
-  got : (ts : List Term) (ps : List ℕ) (i p : ℕ) → AtomsStand cells ts ps → slice_get ps i ≡ Some p → (t : Term) × (slice_get ts i ≡ Some t) × (stands cells t p ≡ true)
+  got : (ts : List Term) (ps : List ℕ) (i p : ℕ) → AllStand cells ts ps → slice_get ps i ≡ Some p → (t : Term) × (slice_get ts i ≡ Some t) × (stands cells t p ≡ true)
   got [] [] i p h e = cc
   got [] (q ∷ ps) i p h e = absurd h
   got (t ∷ ts) [] i p h e = absurd h
@@ -24,22 +24,22 @@ module _ (cells : List Cell) where
       (t, refl, ap (stands cells t) (sym same) ∙ h.0)
   got (t ∷ ts) (q ∷ ps) (suc i) p h e = got ts ps i p h.1 e
 
-  not_got : (ts : List Term) (ps : List ℕ) (i : ℕ) → AtomsStand cells ts ps → slice_get ps i ≡ None → slice_get ts i ≡ None
+  not_got : (ts : List Term) (ps : List ℕ) (i : ℕ) → AllStand cells ts ps → slice_get ps i ≡ None → slice_get ts i ≡ None
   not_got [] [] i h e = refl
   not_got [] (q ∷ ps) i h e = absurd h
   not_got (t ∷ ts) [] i h e = absurd h
   not_got (t ∷ ts) (q ∷ ps) zero h e = cc
   not_got (t ∷ ts) (q ∷ ps) (suc i) h e = not_got ts ps i h.1 e
 
-  pub number_at : (ts : List Term) (ps : List ℕ) (k p : ℕ) → AtomsStand cells ts ps → numbered ps k ≡ Some p → (t : Term) × (numbered ts k ≡ Some t) × (stands cells t p ≡ true)
+  pub number_at : (ts : List Term) (ps : List ℕ) (k p : ℕ) → AllStand cells ts ps → numbered ps k ≡ Some p → (t : Term) × (numbered ts k ≡ Some t) × (stands cells t p ≡ true)
   number_at ts ps zero p h e = cc
   number_at ts ps (suc k) p h e = got ts ps k p h e
 
-  pub no_number : (ts : List Term) (ps : List ℕ) (k : ℕ) → AtomsStand cells ts ps → numbered ps k ≡ None → numbered ts k ≡ None
+  pub no_number : (ts : List Term) (ps : List ℕ) (k : ℕ) → AllStand cells ts ps → numbered ps k ≡ None → numbered ts k ≡ None
   no_number ts ps zero h e = refl
   no_number ts ps (suc k) h e = not_got ts ps k h e
 
-  pub atoms_taken : (n : ℕ) (ts : List Term) (ps : List ℕ) → AtomsStand cells ts ps → AtomsStand cells (take n ts) (take n ps)
+  pub atoms_taken : (n : ℕ) (ts : List Term) (ps : List ℕ) → AllStand cells ts ps → AllStand cells (take n ts) (take n ps)
   atoms_taken zero ts ps h = tt
   atoms_taken (suc n) [] [] h = tt
   atoms_taken (suc n) [] (p ∷ ps) h = absurd h

@@ -1,28 +1,57 @@
 -- Products in cells that are left out or put into order.
-use Rattle.std.proofs.Common.{◌≡◌, ◌∙◌, sym, ap, refl, subst, ℕ, zero, suc, ◌==◌, ◌<◌, ◌≤◌, ◌-◌, Bool, true, false, not, List, [], ◌∷◌, ◌++◌, length, get_or, set, take, drop, arith}
+use Rattle.std.proofs.Common.{◌≡◌, ◌∙◌, sym, ap, refl, subst, ℕ, zero, suc, ◌==◌, ◌<◌, ◌≤◌, ◌-◌, Bool, true, false, not, List, [], ◌∷◌, ◌++◌, length, map, get_or, set, take, drop, if◌then◌else◌, arith}
 use Rattle.std.specs.List.{filter}
-use Rattle.std.proofs.lemmas.Bool.{false≢true}
+use Rattle.std.proofs.lemmas.Bool.{and_from, and_parts, false≢true}
 use Rattle.std.proofs.lemmas.List.{take_rest, drop_all, append-nil}
 use Rattle.std.proofs.lemmas.Grind.{common_steps}
 use borrow.Rule.Slice.PartMut.{put_mid}
 use Rattle.math_terms.specs.declared.term.Term.{Term}
-use Rattle.num_theory.specs.Linear.{Product, in_text_order, insert_product, is_zero, text_before}
+use Rattle.num_theory.specs.declared.number.Number.{Number}
+use Rattle.num_theory.specs.declared.number.Number.TheVariants.{Exact, Lost}
+use Rattle.num_theory.specs.Linear.{Product, RawProduct, exact_product, in_text_order, insert_product, narrow_products, text_before}
+use Rattle.num_theory.specs.Number.{exact, is_narrow, is_zero}
 use Rattle.num_theory.specs.Texts.{text}
 use Rattle.term_cells.specs.declared.cell.Cell.{Cell}
 use Rattle.term_cells.specs.Standing.{stands}
 use Rattle.term_cells.proofs.Lasting.{stands_inside}
-use Rattle.cell_rows.specs.Forms.{Mark, ProductsStand}
+use Rattle.cell_rows.specs.Forms.{Mark, ProductsStand, RawStand}
+
+-- a narrow number is an integer
+pub narrow_exact : (n : Number) → is_narrow n ≡ true → n ≡ Exact (exact n)
+narrow_exact (Exact z) h = refl
+narrow_exact Lost h = absurd (false≢true h)
+
+-- products without those of coefficient 0
+abbrev pub nonzero : List RawProduct → List RawProduct
+nonzero ps = filter (λ (p : RawProduct). not (is_zero p.0)) ps
+
+pub nonzero_narrow : (ps : List RawProduct) → narrow_products ps ≡ true → narrow_products (nonzero ps) ≡ true
+nonzero_narrow [] h = refl
+nonzero_narrow (p ∷ ps) h =
+    let parts = and_parts (is_narrow p.0) (narrow_products ps) h in
+    by_test (not (is_zero p.0)) parts.0 (nonzero_narrow ps parts.1)
+  where
+    by_test : (b : Bool) → is_narrow p.0 ≡ true → narrow_products (nonzero ps) ≡ true → narrow_products (if b then p ∷ nonzero ps else nonzero ps) ≡ true
+    by_test true here rest = and_from (is_narrow p.0) (narrow_products (nonzero ps)) here rest
+    by_test false here rest = rest
 
 module _ (cells : List Cell) where
-  pub filtered : (ps : List Product) (ms : List Mark) → ProductsStand cells ps ms →
-      ProductsStand cells (filter (λ (p : Product). not (is_zero p.0)) ps) (filter (λ (m : Mark). not (is_zero m.0)) ms)
+  exact_stand : (ps : List RawProduct) (ms : List Mark) → narrow_products ps ≡ true → RawStand cells ps ms → ProductsStand cells (map exact_product ps) ms
+  exact_stand [] [] n h = tt
+  exact_stand [] (m ∷ ms) n h = absurd h
+  exact_stand (p ∷ ps) [] n h = absurd h
+  exact_stand (p ∷ ps) (m ∷ ms) n h =
+      let parts = and_parts (is_narrow p.0) (narrow_products ps) n in
+      (h.0 ∙ narrow_exact p.0 parts.0, h.1, exact_stand ps ms parts.1 h.2)
+
+  pub filtered : (ps : List RawProduct) (ms : List Mark) → RawStand cells ps ms → RawStand cells (nonzero ps) (filter (λ (m : Mark). not (is_zero m.0)) ms)
   filtered [] [] h = tt
   filtered [] (m ∷ ms) h = absurd h
   filtered (p ∷ ps) [] h = absurd h
   filtered (p ∷ ps) (m ∷ ms) h = by_test (is_zero p.0) (is_zero m.0) refl refl (ap is_zero h.0) (filtered ps ms h.2)
     where
-      by_test : (a b : Bool) → is_zero p.0 ≡ a → is_zero m.0 ≡ b → is_zero m.0 ≡ is_zero p.0 → ProductsStand cells (filter (λ (p : Product). not (is_zero p.0)) ps) (filter (λ (m : Mark). not (is_zero m.0)) ms) →
-          ProductsStand cells (filter (λ (p : Product). not (is_zero p.0)) (p ∷ ps)) (filter (λ (m : Mark). not (is_zero m.0)) (m ∷ ms))
+      by_test : (a b : Bool) → is_zero p.0 ≡ a → is_zero m.0 ≡ b → is_zero m.0 ≡ is_zero p.0 → RawStand cells (nonzero ps) (filter (λ (m : Mark). not (is_zero m.0)) ms) →
+          RawStand cells (nonzero (p ∷ ps)) (filter (λ (m : Mark). not (is_zero m.0)) (m ∷ ms))
       by_test true true f g e rest = rw (f, g) rest
       by_test true false f g e rest = absurd (false≢true (sym g ∙ e ∙ f))
       by_test false true f g e rest = absurd (false≢true (sym f ∙ sym e ∙ g))
@@ -85,15 +114,15 @@ module _ (cells : List Cell) where
       by_list (p ∷ ps) [] e h = absurd h
       by_list (p ∷ ps) (m ∷ ms) e h = cc
 
-  pub shown_stand : (ps : List Product) (ms kept new : List Mark) (left : ℕ) → (xs ys : List Mark) →
-      take left kept ≡ filter (λ (m : Mark). not (is_zero m.0)) ms → ProductsStand cells ps ms →
+  pub shown_stand : (ps : List RawProduct) (ms kept new : List Mark) (left : ℕ) → (xs ys : List Mark) → narrow_products ps ≡ true →
+      take left kept ≡ filter (λ (m : Mark). not (is_zero m.0)) ms → RawStand cells ps ms →
       ((rs : List Product) → ProductsStand cells rs (take left (kept ++ xs)) → ProductsStand cells (in_text_order rs) new) → left ≤ length kept → length new ≡ left →
-      ProductsStand cells (in_text_order (filter (λ (p : Product). not (is_zero p.0)) ps)) (take left (new ++ ys))
-  shown_stand ps ms kept new left xs ys is h rest room size =
+      ProductsStand cells (in_text_order (map exact_product (nonzero ps))) (take left (new ++ ys))
+  shown_stand ps ms kept new left xs ys narrow is h rest room size =
       let front : take left (kept ++ xs) ≡ take left kept = grind (arith, common_steps) in
       let all : take left (new ++ ys) ≡ new = grind (arith, common_steps) in
-      subst (ProductsStand cells (in_text_order (filter (λ (p : Product). not (is_zero p.0)) ps))) (sym all)
-      (rest (filter (λ (p : Product). not (is_zero p.0)) ps) (subst (ProductsStand cells (filter (λ (p : Product). not (is_zero p.0)) ps)) (sym (front ∙ is)) (filtered ps ms h)))
+      subst (ProductsStand cells (in_text_order (map exact_product (nonzero ps)))) (sym all)
+      (rest (map exact_product (nonzero ps)) (exact_stand (nonzero ps) (take left (kept ++ xs)) (nonzero_narrow ps narrow) (subst (RawStand cells (nonzero ps)) (sym (front ∙ is)) (filtered ps ms h))))
 
   pub before_is : (ms : List Mark) (d : Mark) (room : ℕ) (r b : Bool) → length cells ≤ room → r ≡ b →
       ((t u : Term) → stands cells t (get_or ms 0 d).1 ≡ true → stands cells u (get_or ms 1 d).1 ≡ true → (get_or ms 0 d).1 < room → (get_or ms 1 d).1 < room → r ≡ text_before (text t) (text u)) →

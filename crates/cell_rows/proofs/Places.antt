@@ -8,7 +8,7 @@ use Rattle.num_theory.specs.Linear.{Product}
 use Rattle.num_theory.specs.Table.{with_atom, with_atoms}
 use Rattle.term_cells.specs.declared.cell.Cell.{Cell}
 use Rattle.term_cells.specs.Standing.{stands}
-use Rattle.cell_rows.specs.AtomsStand.{AtomsStand}
+use Rattle.term_cells.specs.Placed.{AllStand}
 use Rattle.cell_rows.specs.Forms.{Mark, ProductsStand}
 use Rattle.cell_rows.proofs.Marks.{same_is}
 
@@ -25,7 +25,7 @@ pub record FirstAtom (cells : List Cell) (ts : List Term) (ps : List ℕ) (d : �
   pub rest : List Term
   pub same : ts ≡ first ∷ rest
   pub first_stands : stands cells first (get_or ps 0 d) ≡ true
-  pub rest_stands : AtomsStand cells rest (take (length ps - 1) (drop 1 ps))
+  pub rest_stands : AllStand cells rest (take (length ps - 1) (drop 1 ps))
 
 module _ (cells : List Cell) where
   pub first_product : (ps : List Product) (ms : List Mark) (d : Mark) → 0 < length ms → ProductsStand cells ps ms → FirstProduct cells ps ms d
@@ -33,28 +33,28 @@ module _ (cells : List Cell) where
   first_product [] (m ∷ ms) d l h = absurd h
   first_product (p ∷ ps) (m ∷ ms) d l h = record { first = p; rest = ps; same = refl; first_stands = h.1; rest_stands = subst (ProductsStand cells ps) (sym (take_rest (m ∷ ms) 1)) h.2 }
 
-  pub first_atom : (ts : List Term) (ps : List ℕ) (d : ℕ) → 0 < length ps → AtomsStand cells ts ps → FirstAtom cells ts ps d
+  pub first_atom : (ts : List Term) (ps : List ℕ) (d : ℕ) → 0 < length ps → AllStand cells ts ps → FirstAtom cells ts ps d
   first_atom ts [] d l h = absurd (omega arith)
   first_atom [] (p ∷ ps) d l h = absurd h
-  first_atom (t ∷ ts) (p ∷ ps) d l h = record { first = t; rest = ts; same = refl; first_stands = h.0; rest_stands = subst (AtomsStand cells ts) (sym (take_rest (p ∷ ps) 1)) h.1 }
+  first_atom (t ∷ ts) (p ∷ ps) d l h = record { first = t; rest = ts; same = refl; first_stands = h.0; rest_stands = subst (AllStand cells ts) (sym (take_rest (p ∷ ps) 1)) h.1 }
 
   pub no_products : (ps : List Product) (ms : List Mark) → ms ≡ [] → ProductsStand cells ps ms → ps ≡ []
   no_products [] ms e h = refl
   no_products (p ∷ ps) [] e h = absurd h
   no_products (p ∷ ps) (m ∷ ms) e h = cc
 
-  pub no_atoms : (ts : List Term) (ps : List ℕ) → ps ≡ [] → AtomsStand cells ts ps → ts ≡ []
+  pub no_atoms : (ts : List Term) (ps : List ℕ) → ps ≡ [] → AllStand cells ts ps → ts ≡ []
   no_atoms [] ps e h = refl
   no_atoms (t ∷ ts) [] e h = absurd h
   no_atoms (t ∷ ts) (p ∷ ps) e h = cc
 
-  pub atoms_counted : (ts : List Term) (ps : List ℕ) → AtomsStand cells ts ps → length ts ≡ length ps
+  pub atoms_counted : (ts : List Term) (ps : List ℕ) → AllStand cells ts ps → length ts ≡ length ps
   atoms_counted [] [] h = refl
   atoms_counted [] (p ∷ ps) h = absurd h
   atoms_counted (t ∷ ts) [] h = absurd h
   atoms_counted (t ∷ ts) (p ∷ ps) h = ap suc (atoms_counted ts ps h.1)
 
-  pub atoms_push : (ts : List Term) (ps : List ℕ) (t : Term) (p : ℕ) → AtomsStand cells ts ps → stands cells t p ≡ true → AtomsStand cells (ts ++ t ∷ []) (ps ++ p ∷ [])
+  pub atoms_push : (ts : List Term) (ps : List ℕ) (t : Term) (p : ℕ) → AllStand cells ts ps → stands cells t p ≡ true → AllStand cells (ts ++ t ∷ []) (ps ++ p ∷ [])
   atoms_push [] [] t p h s = (s, tt)
   atoms_push [] (q ∷ ps) t p h s = absurd h
   atoms_push (u ∷ ts) [] t p h s = absurd h
@@ -76,16 +76,16 @@ module _ (cells : List Cell) where
     pub has_it_not : b ≡ false → with_atom ts t ≡ ts ++ t ∷ []
     has_it_not e = ap (λ (x : Bool). if x then ts else ts ++ t ∷ []) (sym answer ∙ e)
 
-    pub no_place : (places : List ℕ) (count : ℕ) → b ≡ false → AtomsStand cells ts (take count places) → length places ≤ count → count ≤ length places → length places < length (with_atom ts t)
+    pub no_place : (places : List ℕ) (count : ℕ) → b ≡ false → AllStand cells ts (take count places) → length places ≤ count → count ≤ length places → length places < length (with_atom ts t)
     no_place places count e h full room =
         let size = atoms_counted ts (take count places) h in
         let all = length-take-le count places room in
         subst (λ (x : List Term). length places < length x) (sym (has_it_not e)) (omega (arith, size, all, length-append ts (t ∷ [])))
 
-    pub place_taken : (places : List ℕ) (count at : ℕ) → b ≡ false → AtomsStand cells ts (take count places) → count < length places → stands cells t at ≡ true → AtomsStand cells (with_atom ts t) (take (count + 1) (set places count at))
+    pub place_taken : (places : List ℕ) (count at : ℕ) → b ≡ false → AllStand cells ts (take count places) → count < length places → stands cells t at ≡ true → AllStand cells (with_atom ts t) (take (count + 1) (set places count at))
     place_taken places count at e h room s =
-        subst (λ (x : List Term). AtomsStand cells x (take (count + 1) (set places count at))) (sym (has_it_not e))
-        (subst (AtomsStand cells (ts ++ t ∷ [])) (sym (take_more_set places count at room)) (atoms_push ts (take count places) t at h s))
+        subst (λ (x : List Term). AllStand cells x (take (count + 1) (set places count at))) (sym (has_it_not e))
+        (subst (AllStand cells (ts ++ t ∷ [])) (sym (take_more_set places count at room)) (atoms_push ts (take count places) t at h s))
 
 -- more atoms are not fewer
 pub atom_adds : (ts : List Term) (t : Term) → length ts ≤ length (with_atom ts t)

@@ -8,19 +8,19 @@ use Rattle.math_terms.specs.declared.term.Term.TheOpen.{Term-F}
 use Rattle.math_terms.specs.declared.term.Term.TheViews.{out-Term, roll-Term, out-roll-Term}
 use Rattle.math_terms.specs.Heads.{form}
 use Rattle.math_terms.specs.Terms.{nodes}
-use Rattle.num_theory.specs.Linear.{atom_form, constant_form, formed, is_constant, multiple, plus, times}
+use Rattle.num_theory.specs.Linear.{atom_form, constant_form, formed, is_constant, minus_one, multiple, plus, times}
 use Rattle.num_theory.specs.Table.{facts_at, facts_by, facts_of, facts_over, last_of, less_eq, multiple_of, num, quotient_facts}
 use Rattle.num_theory.proofs.Forming.{form_at}
 use Rattle.term_cells.specs.declared.cell.Cell.{Cell}
 use Rattle.term_cells.specs.Standing.{stands, stands_below}
 use Rattle.term_cells.proofs.Apart.{below_parts}
 use Rattle.term_cells.proofs.ByForm.{its_form, leaves_open, one_opens}
-use Rattle.cell_rows.specs.Facts.{last_form, literal_of, lower_form, multiple_form, upper_form}
+use Rattle.cell_rows.specs.working.Facts.{last_form, literal_of, lower_form, multiple_form, upper_form}
 use Rattle.cell_rows.specs.RowsStand.{fact_form, fact_form_at}
 use Rattle.cell_rows.proofs.Nodes.{IsTwo, other_formed, product_first, two_at}
 
 -- the form of a fact is that of its right side minus that of its left side
-less_eq_form : (a b : Term) → fact_form (less_eq a b) ≡ plus (formed b).1 (times (negsuc 0) (formed a).1)
+less_eq_form : (a b : Term) → fact_form (less_eq a b) ≡ plus (formed b).1 (times minus_one (formed a).1)
 less_eq_form a b = ap fact_form_at (out-roll-Term (Term-F.LessEq a b)) ∙ form_at (Term-F.Sub b a) (roll-Term (Term-F.Sub b a)) refl
 
 number_form : (n : ℤ) → (formed (num n)).1 ≡ constant_form n
@@ -28,7 +28,7 @@ number_form n = form_at (Term-F.Num n) (num n) refl
 
 module _ (q : Term) (atom : (formed q).1 ≡ atom_form q) where
   pub length_form : fact_form (less_eq (num (pos 0)) q) ≡ atom_form q
-  length_form = less_eq_form (num (pos 0)) q ∙ (λ i. plus (atom i) (times (negsuc 0) (number_form (pos 0) i)))
+  length_form = less_eq_form (num (pos 0)) q ∙ (λ i. plus (atom i) (times minus_one (number_form (pos 0) i)))
 
   multiple_is : (n : ℤ) → (formed (multiple_of n q)).1 ≡ multiple_form n q
   multiple_is n =
@@ -37,7 +37,7 @@ module _ (q : Term) (atom : (formed q).1 ≡ atom_form q) where
       ∙ (λ i. multiple (number_form n i) (atom i))
 
   pub lower_is : (n : ℤ) (t : Term) → fact_form (less_eq (multiple_of n q) t) ≡ lower_form n q t
-  lower_is n t = less_eq_form (multiple_of n q) t ∙ (λ i. plus (formed t).1 (times (negsuc 0) (multiple_is n i)))
+  lower_is n t = less_eq_form (multiple_of n q) t ∙ (λ i. plus (formed t).1 (times minus_one (multiple_is n i)))
 
   past_is : (n : ℤ) → (formed (roll-Term (Term-F.Add (multiple_of n q) (num n)))).1 ≡ plus (multiple_form n q) (constant_form n)
   past_is n =
@@ -47,94 +47,23 @@ module _ (q : Term) (atom : (formed q).1 ≡ atom_form q) where
   last_is : (n : ℤ) → (formed (last_of n q)).1 ≡ last_form n q
   last_is n =
       form_at (Term-F.Sub (roll-Term (Term-F.Add (multiple_of n q) (num n))) (num (pos 1))) (last_of n q) refl
-      ∙ (λ i. plus (past_is n i) (times (negsuc 0) (number_form (pos 1) i)))
+      ∙ (λ i. plus (past_is n i) (times minus_one (number_form (pos 1) i)))
 
   pub upper_is : (n : ℤ) (t : Term) → fact_form (less_eq t (last_of n q)) ≡ upper_form n q t
-  upper_is n t = less_eq_form t (last_of n q) ∙ (λ i. plus (last_is n i) (times (negsuc 0) (formed t).1))
+  upper_is n t = less_eq_form t (last_of n q) ∙ (λ i. plus (last_is n i) (times minus_one (formed t).1))
 
 pub over_literal : (atom t : Term) (x : Term-F Term) → facts_over atom t x ≡ facts_by atom t (literal_of x)
 over_literal atom t (Term-F.Num n) = refl
-over_literal atom t (Term-F.Truth b) = refl
-over_literal atom t Term-F.MinInt = refl
-over_literal atom t Term-F.MaxInt = refl
-over_literal atom t (Term-F.Var k) = refl
-over_literal atom t (Term-F.Add x y) = refl
-over_literal atom t (Term-F.Sub x y) = refl
-over_literal atom t (Term-F.Mul x y) = refl
-over_literal atom t (Term-F.Div x y) = refl
-over_literal atom t (Term-F.Mod x y) = refl
-over_literal atom t (Term-F.Len x) = refl
-over_literal atom t Term-F.Empty = refl
-over_literal atom t (Term-F.Single x) = refl
-over_literal atom t (Term-F.Cat x y) = refl
-over_literal atom t (Term-F.Reverse x) = refl
-over_literal atom t (Term-F.Part i j x) = refl
-over_literal atom t (Term-F.Tuple parts) = refl
-over_literal atom t (Term-F.Proj k x) = refl
-over_literal atom t (Term-F.Eq x y) = refl
-over_literal atom t (Term-F.Less x y) = refl
-over_literal atom t (Term-F.LessEq x y) = refl
-over_literal atom t (Term-F.Not x) = refl
-over_literal atom t (Term-F.And x y) = refl
-over_literal atom t (Term-F.Or x y) = refl
-over_literal atom t (Term-F.Implies x y) = refl
-over_literal atom t (Term-F.Initial k x) = refl
+over_literal atom t x = refl
 
 no_literal : (x : Term-F Term) → (form x == 0) ≡ false → literal_of x ≡ pos 0
 no_literal (Term-F.Num n) h = cc
-no_literal (Term-F.Truth b) h = refl
-no_literal Term-F.MinInt h = refl
-no_literal Term-F.MaxInt h = refl
-no_literal (Term-F.Var k) h = refl
-no_literal (Term-F.Add x y) h = refl
-no_literal (Term-F.Sub x y) h = refl
-no_literal (Term-F.Mul x y) h = refl
-no_literal (Term-F.Div x y) h = refl
-no_literal (Term-F.Mod x y) h = refl
-no_literal (Term-F.Len x) h = refl
-no_literal Term-F.Empty h = refl
-no_literal (Term-F.Single x) h = refl
-no_literal (Term-F.Cat x y) h = refl
-no_literal (Term-F.Reverse x) h = refl
-no_literal (Term-F.Part i j x) h = refl
-no_literal (Term-F.Tuple parts) h = refl
-no_literal (Term-F.Proj k x) h = refl
-no_literal (Term-F.Eq x y) h = refl
-no_literal (Term-F.Less x y) h = refl
-no_literal (Term-F.LessEq x y) h = refl
-no_literal (Term-F.Not x) h = refl
-no_literal (Term-F.And x y) h = refl
-no_literal (Term-F.Or x y) h = refl
-no_literal (Term-F.Implies x y) h = refl
-no_literal (Term-F.Initial k x) h = refl
+no_literal x h = refl
 
 no_facts_at : (atom : Term) (x : Term-F Term) → ((form x == 10) || (form x == 8)) ≡ false → facts_at atom x ≡ []
-no_facts_at atom (Term-F.Num n) h = refl
-no_facts_at atom (Term-F.Truth b) h = refl
-no_facts_at atom Term-F.MinInt h = refl
-no_facts_at atom Term-F.MaxInt h = refl
-no_facts_at atom (Term-F.Var k) h = refl
-no_facts_at atom (Term-F.Add x y) h = refl
-no_facts_at atom (Term-F.Sub x y) h = refl
-no_facts_at atom (Term-F.Mul x y) h = refl
 no_facts_at atom (Term-F.Div x y) h = cc
-no_facts_at atom (Term-F.Mod x y) h = refl
 no_facts_at atom (Term-F.Len x) h = cc
-no_facts_at atom Term-F.Empty h = refl
-no_facts_at atom (Term-F.Single x) h = refl
-no_facts_at atom (Term-F.Cat x y) h = refl
-no_facts_at atom (Term-F.Reverse x) h = refl
-no_facts_at atom (Term-F.Part i j x) h = refl
-no_facts_at atom (Term-F.Tuple parts) h = refl
-no_facts_at atom (Term-F.Proj k x) h = refl
-no_facts_at atom (Term-F.Eq x y) h = refl
-no_facts_at atom (Term-F.Less x y) h = refl
-no_facts_at atom (Term-F.LessEq x y) h = refl
-no_facts_at atom (Term-F.Not x) h = refl
-no_facts_at atom (Term-F.And x y) h = refl
-no_facts_at atom (Term-F.Or x y) h = refl
-no_facts_at atom (Term-F.Implies x y) h = refl
-no_facts_at atom (Term-F.Initial k x) h = refl
+no_facts_at atom x h = refl
 
 pub facts_high : (atom t : Term) (n : ℤ) → pos 0 <ℤ n → facts_by atom t n ≡ quotient_facts n atom t
 facts_high atom t (pos zero) h = absurd (omega (arith, ints))

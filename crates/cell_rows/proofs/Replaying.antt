@@ -4,7 +4,7 @@ use Rattle.std.proofs.lemmas.Int.{ints}
 use Rattle.std.proofs.lemmas.List.{map_push, take_at, take_more_set}
 use Rattle.math_terms.specs.declared.name.Line.{Line}
 use Rattle.num_theory.specs.Lines.{numbered, sum_at, sum_by, sum_of, with_lines}
-use Rattle.cell_rows.specs.RowsIn.{LineAdded, RowsIn}
+use Rattle.cell_rows.specs.working.RowsIn.{LineAdded, RowsIn}
 
 got_some : (width count : ℕ) (places : List (List ℤ)) (k : ℕ) (a : List ℤ) → k < count → slice_get places k ≡ Some a → slice_get (map (take width) (take count places)) k ≡ Some (take width a)
 got_some width zero places k a l e = absurd (omega arith)

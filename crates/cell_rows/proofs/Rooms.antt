@@ -4,7 +4,7 @@ use Rattle.std.proofs.lemmas.List.{length-take-le}
 use Rattle.std.proofs.lemmas.List.Sums.{sum_by-cons}
 use Rattle.math_terms.specs.declared.term.Term.{Term}
 use Rattle.math_terms.specs.Terms.{nodes}
-use Rattle.cell_rows.specs.Small.{Small}
+use Rattle.cell_rows.specs.working.Small.{Small}
 
 -- each term of a list has at most as many nodes as all of them
 pub small_by_sum : (most : ℕ) (ts : List Term) → sum (map nodes ts) ≤ most → Small most ts

@@ -14,8 +14,8 @@ use Rattle.num_theory.specs.Lines.{narrow}
 use Rattle.num_theory.specs.Linear.{linear_of}
 use Rattle.num_theory.specs.Naming.{negated_goal}
 use Rattle.num_theory.specs.Table.{Sum, atoms_of, difference, facts_at, facts_by, facts_of, last_of, less_eq, multiple_of, num, sums_at, sums_from, sums_of, sums_of_equation, sums_of_fact, sums_of_facts, sums_of_form, with_atoms}
-use Rattle.cell_rows.specs.AtomsStand.{with_fact_rows, with_row}
-use Rattle.cell_rows.specs.Facts.{literal_of}
+use Rattle.cell_rows.specs.working.Atoms.{with_fact_rows, with_row}
+use Rattle.cell_rows.specs.working.Facts.{literal_of}
 use Rattle.cell_rows.specs.RowsStand.{Row, difference_row, equation_row, fact_row, first_row, first_row_at, goal_row, second_row, second_row_at, shifted}
 use Rattle.cell_rows.proofs.Quotients.{over_literal}
 
@@ -48,32 +48,10 @@ module _ (vars : List Sort) (k : ℕ) where
       by_test false = refl
 
   node_named : (x : Term-F Term) → sums_at vars k x ≡ named (Hyp k) (first_row_at vars x) ++ named (Second k) (second_row_at vars x)
-  node_named (Term-F.Num n) = refl
-  node_named (Term-F.Truth b) = refl
-  node_named Term-F.MinInt = refl
-  node_named Term-F.MaxInt = refl
-  node_named (Term-F.Var j) = refl
-  node_named (Term-F.Add x y) = refl
-  node_named (Term-F.Sub x y) = refl
-  node_named (Term-F.Mul x y) = refl
-  node_named (Term-F.Div x y) = refl
-  node_named (Term-F.Mod x y) = refl
-  node_named (Term-F.Len x) = refl
-  node_named Term-F.Empty = refl
-  node_named (Term-F.Single x) = refl
-  node_named (Term-F.Cat x y) = refl
-  node_named (Term-F.Reverse x) = refl
-  node_named (Term-F.Part i j x) = refl
-  node_named (Term-F.Tuple parts) = refl
-  node_named (Term-F.Proj j x) = refl
   node_named (Term-F.Eq x y) = equation_named x y
   node_named (Term-F.Less x y) = one_named (negsuc 0) x y
   node_named (Term-F.LessEq x y) = one_named (pos 0) x y
-  node_named (Term-F.Not x) = refl
-  node_named (Term-F.And x y) = refl
-  node_named (Term-F.Or x y) = refl
-  node_named (Term-F.Implies x y) = refl
-  node_named (Term-F.Initial j x) = refl
+  node_named x = refl
 
   pub formula_named : (f : Term) → sums_of vars k f ≡ named (Hyp k) (first_row vars f) ++ named (Second k) (second_row vars f)
   formula_named f = node_named (out-Term f)
@@ -85,32 +63,9 @@ module _ (vars : List Sort) (k : ℕ) where
       ∙ (λ i. named (Hyp k) (first i) ++ named (Second k) (second i)) ∙ append-nil (named (Hyp k) row)
 
   goal_by : (g : Term) (x : Term-F Term) → out-Term g ≡ x → sums_from vars k (negated_goal g) ≡ named (Hyp k) (goal_row g)
-  goal_by g (Term-F.Num n) e = rw e refl
-  goal_by g (Term-F.Truth b) e = rw e refl
-  goal_by g Term-F.MinInt e = rw e refl
-  goal_by g Term-F.MaxInt e = rw e refl
-  goal_by g (Term-F.Var j) e = rw e refl
-  goal_by g (Term-F.Add x y) e = rw e refl
-  goal_by g (Term-F.Sub x y) e = rw e refl
-  goal_by g (Term-F.Mul x y) e = rw e refl
-  goal_by g (Term-F.Div x y) e = rw e refl
-  goal_by g (Term-F.Mod x y) e = rw e refl
-  goal_by g (Term-F.Len x) e = rw e refl
-  goal_by g Term-F.Empty e = rw e refl
-  goal_by g (Term-F.Single x) e = rw e refl
-  goal_by g (Term-F.Cat x y) e = rw e refl
-  goal_by g (Term-F.Reverse x) e = rw e refl
-  goal_by g (Term-F.Part i j x) e = rw e refl
-  goal_by g (Term-F.Tuple parts) e = rw e refl
-  goal_by g (Term-F.Proj j x) e = rw e refl
-  goal_by g (Term-F.Eq x y) e = rw e refl
   goal_by g (Term-F.Less x y) e = rw e (compared_named (Term-F.LessEq y x) (difference_row (pos 0) y x) refl refl)
   goal_by g (Term-F.LessEq x y) e = rw e (compared_named (Term-F.Less y x) (difference_row (negsuc 0) y x) refl refl)
-  goal_by g (Term-F.Not x) e = rw e refl
-  goal_by g (Term-F.And x y) e = rw e refl
-  goal_by g (Term-F.Or x y) e = rw e refl
-  goal_by g (Term-F.Implies x y) e = rw e refl
-  goal_by g (Term-F.Initial j x) e = rw e refl
+  goal_by g x e = rw e refl
 
   pub goal_named : (g : Term) → sums_from vars k (negated_goal g) ≡ named (Hyp k) (goal_row g)
   goal_named g = goal_by g (out-Term g) refl
@@ -151,32 +106,9 @@ by_compared atom t (negsuc n) = tt
 
 facts_compared_at : (atom : Term) (x : Term-F Term) → AllByRecursion IsCompared (facts_at atom x)
 unfolding IsCompared
-facts_compared_at atom (Term-F.Num n) = tt
-facts_compared_at atom (Term-F.Truth b) = tt
-facts_compared_at atom Term-F.MinInt = tt
-facts_compared_at atom Term-F.MaxInt = tt
-facts_compared_at atom (Term-F.Var j) = tt
-facts_compared_at atom (Term-F.Add x y) = tt
-facts_compared_at atom (Term-F.Sub x y) = tt
-facts_compared_at atom (Term-F.Mul x y) = tt
 facts_compared_at atom (Term-F.Div x y) = subst (AllByRecursion IsCompared) (sym (over_literal atom x (out-Term y))) (by_compared atom x (literal_of (out-Term y)))
-facts_compared_at atom (Term-F.Mod x y) = tt
 facts_compared_at atom (Term-F.Len x) = ((num (pos 0), (atom, refl)), tt)
-facts_compared_at atom Term-F.Empty = tt
-facts_compared_at atom (Term-F.Single x) = tt
-facts_compared_at atom (Term-F.Cat x y) = tt
-facts_compared_at atom (Term-F.Reverse x) = tt
-facts_compared_at atom (Term-F.Part i j x) = tt
-facts_compared_at atom (Term-F.Tuple parts) = tt
-facts_compared_at atom (Term-F.Proj j x) = tt
-facts_compared_at atom (Term-F.Eq x y) = tt
-facts_compared_at atom (Term-F.Less x y) = tt
-facts_compared_at atom (Term-F.LessEq x y) = tt
-facts_compared_at atom (Term-F.Not x) = tt
-facts_compared_at atom (Term-F.And x y) = tt
-facts_compared_at atom (Term-F.Or x y) = tt
-facts_compared_at atom (Term-F.Implies x y) = tt
-facts_compared_at atom (Term-F.Initial j x) = tt
+facts_compared_at atom x = tt
 
 pub facts_compared : (t : Term) → AllByRecursion IsCompared (facts_of t)
 facts_compared t = facts_compared_at t (out-Term t)

@@ -8,12 +8,12 @@ use Rattle.num_theory.specs.Table.{Gathered, atoms_of, facts_of, go_on, sums_fro
 use Rattle.term_cells.specs.declared.cell.Cell.{Cell}
 use Rattle.cell_rows.specs.declared.difference.CellRow.{CellRow}
 use Rattle.cell_rows.specs.declared.difference.Short.{Short}
-use Rattle.cell_rows.specs.AtomsStand.{with_fact_rows, with_row}
-use Rattle.cell_rows.specs.Finding.{numbered}
+use Rattle.cell_rows.specs.working.Atoms.{with_fact_rows, with_row}
+use Rattle.cell_rows.specs.working.Finding.{numbered}
 use Rattle.cell_rows.specs.Forms.{Mark}
 use Rattle.cell_rows.specs.RowsStand.{Row, RowOrShort, first_row, goal_row, second_row}
-use Rattle.cell_rows.specs.Small.{Small}
-use Rattle.cell_rows.specs.Tame.{Tame}
+use Rattle.cell_rows.specs.working.Small.{Small}
+use Rattle.cell_rows.specs.working.Tame.{Tame}
 use Rattle.cell_rows.proofs.Bounded.{facts_more, facts_small, first_small, goal_small, row_more, second_small}
 use Rattle.cell_rows.proofs.Crowded.{tame_facts, tame_none, tame_row}
 use Rattle.cell_rows.proofs.Gathered.{at_hand, facts_added}

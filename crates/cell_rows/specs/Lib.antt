@@ -1,9 +1,4 @@
 pub mod Forms
 pub mod RowsStand
-pub mod Facts
-pub mod AtomsStand
-pub mod Finding
-pub mod Columns
-pub mod RowsIn
-pub mod Small
-pub mod Tame
+pub mod Sequents
+pub mod working

@@ -1,11 +1,13 @@
 -- Rows whose atoms stand in cells.
-use Rattle.std.specs.Prelude.{◌≡◌, ℕ, ◌<◌, ℤ, pos, negsuc, ◌+ℤ◌, ◌&&◌, List, take, length, Option, Some, None, Result, Ok, Err, if◌then◌else◌}
+use Rattle.std.specs.Prelude.{◌≡◌, ℕ, ◌<◌, ℤ, pos, negsuc, ◌+ℤ◌, Bool, ◌&&◌, List, take, length, Option, Some, None, Result, Ok, Err, if◌then◌else◌}
+use Rattle.std.specs.List.{list_all}
 use Rattle.math_terms.specs.declared.descriptor.Sort.{Sort}
 use Rattle.math_terms.specs.declared.term.Term.{Term}
 use Rattle.math_terms.specs.declared.term.Term.TheOpen.{Term-F}
 use Rattle.math_terms.specs.declared.term.Term.TheViews.{roll-Term, out-Term}
 use Rattle.math_terms.specs.Kinds.{kind}
 use Rattle.math_terms.specs.Sorts.{is_z}
+use Rattle.num_theory.specs.declared.number.Number.TheVariants.{Exact}
 use Rattle.num_theory.specs.Lines.{narrow}
 use Rattle.num_theory.specs.Linear.{Form, Product, constant_form, formed, linear_of, shown_form}
 use Rattle.term_cells.specs.declared.cell.Cell.{Cell}
@@ -16,6 +18,10 @@ use Rattle.cell_rows.specs.Forms.{Mark, ProductsStand}
 -- the products and the constant of a row
 abbrev pub Row : Type 0
 Row = List Product × ℤ
+
+-- the coefficients have magnitudes below 2 ^ 31
+abbrev pub are_narrow : List Product → Bool
+are_narrow ps = list_all (λ p. narrow p.0) ps
 
 -- the row of a form with a number added to its constant, where there is one and its constant is narrow
 abbrev pub shifted : ℤ → Option Row → Option Row
@@ -71,7 +77,7 @@ abbrev pub RowStands : List Cell → Option Row → Option CellRow → List Mark
 RowStands cells None None marks = Unit {0}
 RowStands cells None (Some raw) marks = ⊥
 RowStands cells (Some row) None marks = ⊥
-RowStands cells (Some row) (Some raw) marks = ProductsStand cells row.0 (take raw.count marks) × (raw.constant ≡ row.1)
+RowStands cells (Some row) (Some raw) marks = ProductsStand cells row.0 (take raw.count marks) × (raw.constant ≡ Exact row.1)
 
 -- a row that there is room for, or fewer marks than so many
 abbrev pub RowOrShort : List Cell → Option Row → ℕ → Result (Option CellRow) Short → List Mark → Type 0

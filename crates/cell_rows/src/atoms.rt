@@ -7,16 +7,18 @@ ghost use Rattle.math_terms.specs.Heads.{same_term};
 ghost use Rattle.num_theory.specs.Linear.{Product};
 ghost use Rattle.num_theory.specs.Table as spec;
 ghost use Rattle.term_cells.specs.Standing.{stands};
-ghost use Rattle.cell_rows.specs.AtomsStand.{AtomsOrShort, AtomsStand, with_row};
+ghost use Rattle.term_cells.specs.Placed.{AllStand};
+ghost use Rattle.cell_rows.specs.working.Atoms.{AtomsOrShort, with_row};
 ghost use Rattle.cell_rows.specs.Forms.{ProductsStand};
 ghost use Rattle.cell_rows.specs.RowsStand.{Row, RowStands};
 
 use crate::difference::CellRow;
+use num_theory::Number;
 use term_cells::Cells;
 
 /// Whether the atom at a place is among those at other places.
 fn has_atom(cells: &Cells, atom: u32, places: &[u32]) -> bool
-    ensures { (t : Term) (ts : List Term) → stands cells.now.0 t atom ≡ true → AtomsStand cells.now.0 ts places.now → result ≡ list_any (same_term t) ts }
+    ensures { (t : Term) (ts : List Term) → stands cells.now.0 t atom ≡ true → AllStand cells.now.0 ts places.now → result ≡ list_any (same_term t) ts }
 {
     if places.is_empty() {
         return false;
@@ -31,7 +33,7 @@ fn has_atom(cells: &Cells, atom: u32, places: &[u32]) -> bool
 fn add_atom(cells: &Cells, atom: u32, count: usize, places: &mut [u32]) -> Option<usize>
     requires { count ≤ length places.old }
     ensures within { IfSome result (λ n. n ≤ length places.new) }
-    ensures added { (t : Term) (ts : List Term) → stands cells.now.0 t atom ≡ true → AtomsStand cells.now.0 ts (take count places.old) → AtomsOrShort cells.now.0 (spec.with_atom ts t) result places.new }
+    ensures added { (t : Term) (ts : List Term) → stands cells.now.0 t atom ≡ true → AllStand cells.now.0 ts (take count places.old) → AtomsOrShort cells.now.0 (spec.with_atom ts t) result places.new }
 {
     if has_atom(cells, atom, &places[..count]) {
         return Some(count);
@@ -46,13 +48,13 @@ fn add_atom(cells: &Cells, atom: u32, count: usize, places: &mut [u32]) -> Optio
 /// Adds the atoms of products.
 pub(crate) fn add_atoms(
     cells: &Cells,
-    marks: &[(i64, u32)],
+    marks: &[(Number, u32)],
     count: usize,
     places: &mut [u32],
 ) -> Option<usize>
     requires { count ≤ length places.old }
     ensures within { IfSome result (λ n. n ≤ length places.new) }
-    ensures added { (ts : List Term) (ps : List Product) → AtomsStand cells.now.0 ts (take count places.old) → ProductsStand cells.now.0 ps marks.now → AtomsOrShort cells.now.0 (spec.with_atoms ts ps) result places.new }
+    ensures added { (ts : List Term) (ps : List Product) → AllStand cells.now.0 ts (take count places.old) → ProductsStand cells.now.0 ps marks.now → AtomsOrShort cells.now.0 (spec.with_atoms ts ps) result places.new }
 {
     if marks.is_empty() {
         return Some(count);
@@ -65,14 +67,14 @@ pub(crate) fn add_atoms(
 pub(crate) fn add_row(
     cells: &Cells,
     row: Option<CellRow>,
-    marks: &[(i64, u32)],
+    marks: &[(Number, u32)],
     count: usize,
     places: &mut [u32],
 ) -> Option<usize>
     requires counted { count ≤ length places.old }
     requires row_fits { IfSome row (λ r. r.count ≤ length marks.now) }
     ensures within { IfSome result (λ n. n ≤ length places.new) }
-    ensures added { (ts : List Term) (r : Option Row) → AtomsStand cells.now.0 ts (take count places.old) → RowStands cells.now.0 r row marks.now → AtomsOrShort cells.now.0 (with_row ts r) result places.new }
+    ensures added { (ts : List Term) (r : Option Row) → AllStand cells.now.0 ts (take count places.old) → RowStands cells.now.0 r row marks.now → AtomsOrShort cells.now.0 (with_row ts r) result places.new }
 {
     match row {
         Some(row) => add_atoms(cells, &marks[..row.count], count, places),

@@ -1,73 +1,52 @@
 //! The columns of named rows: the atoms that occur in them.
 
-ghost use Rattle.std.specs.Prelude.{◌≡◌, ◌<◌, ◌≤◌, ◌||◌, ℕ, Bool, List, ◌∷◌, IfOk, IfSome, OnErr, Option, length, slice_get, map, true};
+ghost use Rattle.std.specs.Prelude.{◌≡◌, ◌<◌, ◌≤◌, ◌||◌, ℕ, Bool, List, ◌∷◌, IfOk, IfSome, OnErr, Option, length, map, true};
 ghost use Rattle.std.specs.List.{filter};
 ghost use Rattle.math_terms.specs.declared.term.Term.{Term};
 ghost use Rattle.num_theory.specs.Linear.{Product};
-ghost use Rattle.num_theory.specs.Naming.{find_rows, rows_at_hand};
+ghost use Rattle.num_theory.specs.Naming.{find_rows};
 ghost use Rattle.term_cells.specs.declared.cell.Cell as shape;
-ghost use Rattle.term_cells.specs.KindShown.{sorts_of_vars};
 ghost use Rattle.term_cells.specs.Standing.{stands};
-ghost use Rattle.cell_rows.specs.AtomsStand.{AtomsOrShort, AtomsStand};
-ghost use Rattle.cell_rows.specs.Columns.{RowUsed, UsedIs, has_product};
+ghost use Rattle.term_cells.specs.Placed.{AllStand};
+ghost use Rattle.cell_rows.specs.working.Atoms.{AtomsOrShort};
+ghost use Rattle.cell_rows.specs.working.Columns.{RowUsed, UsedIs, has_product};
 ghost use Rattle.cell_rows.specs.Forms.{ProductsStand};
 ghost use Rattle.cell_rows.specs.RowsStand.{Row, RowStands};
-ghost use Rattle.cell_rows.specs.Small.{Small};
+ghost use Rattle.cell_rows.specs.Sequents.{SameRoom, TableStands, table_of};
+ghost use Rattle.cell_rows.specs.working.Small.{Small};
 
 use crate::difference::{CellRow, Short};
-use crate::naming::row_named;
-use math_terms::{Desc, Name, RowName};
-use term_cells::{Cells, Scratch};
+use crate::sequent::CellTable;
+use crate::sheet::Sheet;
+use math_terms::RowName;
+use num_theory::Number;
+use term_cells::Cells;
 
-/// Flags the atoms that occur in the named rows of a sequent. The answer is whether all these rows are there.
-pub(crate) fn use_rows(
-    cells: &Cells,
-    vars: &[(Name, Desc)],
-    hyps: &[u32],
-    goal: u32,
-    atoms: &[u32],
-    names: &[RowName],
-    scratch: &mut Scratch,
-    marks: &mut [(i64, u32)],
-    used: &mut [bool],
-) -> Result<bool, Short>
-    requires readable { length cells.now.0 ≤ scratch.old }
-    requires same_length { length used.old ≡ length atoms.now }
-    ensures room { scratch.new ≡ scratch.old }
-    ensures used { (hs : List Term) (g : Term) → AtomsStand cells.now.0 hs hyps.now → stands cells.now.0 g goal ≡ true → AtomsStand cells.now.0 (rows_at_hand (sorts_of_vars vars.now) hs g).atoms atoms.now
-        → IfOk result (λ found. UsedIs (find_rows (length hs) (rows_at_hand (sorts_of_vars vars.now) hs g).sums names.now) (rows_at_hand (sorts_of_vars vars.now) hs g).atoms found used.new) }
-    ensures short { (hs : List Term) (g : Term) (most : ℕ) → AtomsStand cells.now.0 hs hyps.now → stands cells.now.0 g goal ≡ true → AtomsStand cells.now.0 (rows_at_hand (sorts_of_vars vars.now) hs g).atoms atoms.now → Small most (g ∷ hs) → OnErr result (length marks.old < most) }
-{
-    let Some(name) = first_name(names) else {
+impl<'a> CellTable<'a> {
+    /// Flags the atoms that occur in the named rows. The answer is whether all these rows are there.
+    pub(crate) fn use_rows(
+        &self,
+        names: &[RowName],
+        sheet: &mut Sheet,
+        used: &mut [bool],
+    ) -> Result<bool, Short>
+        requires readable { length self.now.sequent.cells.now.0 ≤ sheet.old.scratch }
+        requires same_length { length used.old ≡ length self.now.atoms.now }
+        ensures room { SameRoom sheet.old sheet.new }
+        ensures used { (hs : List Term) (g : Term) → TableStands self.now hs g → IfOk result (λ found. UsedIs (find_rows (length hs) (table_of self.now.sequent hs g).sums names.now) (table_of self.now.sequent hs g).atoms found used.new) }
+        ensures short { (hs : List Term) (g : Term) (most : ℕ) → TableStands self.now hs g → Small most (g ∷ hs) → OnErr result (length sheet.old.marks.items < most) }
+    {
         clear(used);
-        return Ok(true);
-    };
-    let Ok(others) = use_rows(
-        cells,
-        vars,
-        hyps,
-        goal,
-        atoms,
-        &names[1..],
-        scratch,
-        marks,
-        used,
-    ) else {
-        return Err(Short);
-    };
-    if !others {
-        return Ok(false);
+        for name in names {
+            let Ok(row) = self.row_named(*name, sheet) else {
+                return Err(Short);
+            };
+            if !use_found(self.sequent.cells, self.atoms, row, &sheet.marks, used) {
+                return Ok(false);
+            }
+        }
+        Ok(true)
     }
-    let Ok(row) = row_named(cells, vars, hyps, goal, atoms, name, scratch, marks) else {
-        return Err(Short);
-    };
-    Ok(use_found(cells, atoms, row, marks, used))
-}
-
-pub(crate) fn first_name(names: &[RowName]) -> Option<RowName>
-    ensures { result ≡ slice_get names.now 0 }
-{
-    names.get(0).copied()
 }
 
 /// Flags the atoms of a row, where there is one.
@@ -75,12 +54,12 @@ fn use_found(
     cells: &Cells,
     atoms: &[u32],
     row: Option<CellRow>,
-    marks: &[(i64, u32)],
+    marks: &[(Number, u32)],
     used: &mut [bool],
 ) -> bool
     requires row_fits { IfSome row (λ r. r.count ≤ length marks.now) }
     requires same_length { length used.old ≡ length atoms.now }
-    ensures { (ts : List Term) (r : Option Row) (before : Term → Bool) → AtomsStand cells.now.0 ts atoms.now → RowStands cells.now.0 r row marks.now → used.old ≡ map before ts → RowUsed r ts before result used.new }
+    ensures { (ts : List Term) (r : Option Row) (before : Term → Bool) → AllStand cells.now.0 ts atoms.now → RowStands cells.now.0 r row marks.now → used.old ≡ map before ts → RowUsed r ts before result used.new }
 {
     match row {
         Some(row) => {
@@ -103,9 +82,9 @@ fn clear(used: &mut [bool])
 }
 
 /// Flags the atoms that have a product among these.
-fn use_row(cells: &Cells, atoms: &[u32], marks: &[(i64, u32)], used: &mut [bool])
+fn use_row(cells: &Cells, atoms: &[u32], marks: &[(Number, u32)], used: &mut [bool])
     requires { length used.old ≡ length atoms.now }
-    ensures { (ts : List Term) (ps : List Product) (before : Term → Bool) → AtomsStand cells.now.0 ts atoms.now → ProductsStand cells.now.0 ps marks.now → used.old ≡ map before ts → used.new ≡ map (λ t. has_product ps t || before t) ts }
+    ensures { (ts : List Term) (ps : List Product) (before : Term → Bool) → AllStand cells.now.0 ts atoms.now → ProductsStand cells.now.0 ps marks.now → used.old ≡ map before ts → used.new ≡ map (λ t. has_product ps t || before t) ts }
 {
     if atoms.is_empty() {
         return;
@@ -121,7 +100,7 @@ fn either(a: bool, b: bool) -> bool
 }
 
 /// Whether the atom at a place has a product among these.
-fn has_mark(cells: &Cells, atom: u32, marks: &[(i64, u32)]) -> bool
+fn has_mark(cells: &Cells, atom: u32, marks: &[(Number, u32)]) -> bool
     ensures { (t : Term) (ps : List Product) → stands cells.now.0 t atom ≡ true → ProductsStand cells.now.0 ps marks.now → result ≡ has_product ps t }
 {
     if marks.is_empty() {
@@ -137,7 +116,7 @@ fn has_mark(cells: &Cells, atom: u32, marks: &[(i64, u32)]) -> bool
 pub(crate) fn keep_columns(atoms: &[u32], used: &[bool], columns: &mut [u32]) -> Option<usize>
     requires { length used.now ≡ length atoms.now }
     ensures within { IfSome result (λ n. n ≤ length columns.new) }
-    ensures kept { (cells : List shape.Cell) (ts : List Term) (test : Term → Bool) → AtomsStand cells ts atoms.now → used.now ≡ map test ts → AtomsOrShort cells (filter test ts) result columns.new }
+    ensures kept { (cells : List shape.Cell) (ts : List Term) (test : Term → Bool) → AllStand cells ts atoms.now → used.now ≡ map test ts → AtomsOrShort cells (filter test ts) result columns.new }
 {
     if atoms.is_empty() {
         return Some(0);

@@ -8,13 +8,16 @@ ghost use Rattle.num_theory.specs.Linear as spec;
 ghost use Rattle.num_theory.specs.Table.{facts_of};
 ghost use Rattle.term_cells.specs.declared.cell.Cell as shape;
 ghost use Rattle.term_cells.specs.Standing.{stands, stands_below};
-ghost use Rattle.cell_rows.specs.Facts.{literal_of, lower_form, multiple_form, upper_form, last_form};
+ghost use Rattle.cell_rows.specs.working.Facts.{literal_of, lower_form, multiple_form, upper_form, last_form};
 ghost use Rattle.cell_rows.specs.Forms.{FormOrShort};
 ghost use Rattle.cell_rows.specs.RowsStand.{RowOrShort, fact_form, fact_row};
+ghost use Rattle.cell_rows.specs.Sequents.{SameRoom};
 
-use crate::difference::{CellRow, Short, minus, row_of_form};
+use crate::difference::{CellRow, Short, minus};
 use crate::forms::{CellForm, atom_form, constant_form, form_below, multiple, plus};
-use term_cells::{Cell, Cells, Scratch};
+use crate::sheet::Sheet;
+use num_theory::Number;
+use term_cells::{Cell, Cells};
 
 const NUM: u8 = 0;
 
@@ -49,27 +52,28 @@ pub(crate) fn count_facts(cells: &Cells, p: u32) -> u32
     0
 }
 
-/// The row of fact k, counted from 0, on the atom at a place.
-pub(crate) fn row_of_fact(
-    cells: &Cells,
-    p: u32,
-    k: u32,
-    scratch: &mut Scratch,
-    marks: &mut [(i64, u32)],
-) -> Result<Option<CellRow>, Short>
-    requires { length cells.now.0 ≤ scratch.old }
-    ensures room { scratch.new ≡ scratch.old }
-    ensures fits { IfOk result (λ row. IfSome row (λ r. r.count ≤ length marks.new)) }
-    ensures row { (t f : Term) → stands cells.now.0 t p ≡ true → slice_get (facts_of t) k ≡ Some f → RowOrShort cells.now.0 (fact_row f) (nodes t) result marks.new }
-{
-    let Some(form) = form_of_fact(cells, p, k, marks) else {
-        return Err(Short);
-    };
-    Ok(row_of_form(cells, form, 0, scratch, marks))
+impl Sheet {
+    /// The row of fact k, counted from 0, on the atom at a place.
+    pub(crate) fn row_of_fact(
+        &mut self,
+        cells: &Cells,
+        p: u32,
+        k: u32,
+    ) -> Result<Option<CellRow>, Short>
+        requires { length cells.now.0 ≤ self.old.scratch }
+        ensures room { SameRoom self.old self.new }
+        ensures fits { IfOk result (λ row. IfSome row (λ r. r.count ≤ length self.new.marks.items)) }
+        ensures row { (t f : Term) → stands cells.now.0 t p ≡ true → slice_get (facts_of t) k ≡ Some f → RowOrShort cells.now.0 (fact_row f) (nodes t) result self.new.marks.items }
+    {
+        let Some(form) = form_of_fact(cells, p, k, &mut self.marks) else {
+            return Err(Short);
+        };
+        Ok(self.row_of_form(cells, form, 0))
+    }
 }
 
 /// The form of the right side of a fact minus its left side.
-fn form_of_fact(cells: &Cells, p: u32, k: u32, marks: &mut [(i64, u32)]) -> Option<CellForm>
+fn form_of_fact(cells: &Cells, p: u32, k: u32, marks: &mut [(Number, u32)]) -> Option<CellForm>
     ensures fits { IfSome result (λ f. f.count ≤ length marks.new) }
     ensures form { (t f : Term) → stands cells.now.0 t p ≡ true → slice_get (facts_of t) k ≡ Some f → FormOrShort cells.now.0 (fact_form f) (nodes t) result marks.new }
 {
@@ -86,7 +90,7 @@ fn form_of_fact(cells: &Cells, p: u32, k: u32, marks: &mut [(i64, u32)]) -> Opti
 }
 
 /// The number times the term at a place, which is an atom.
-fn multiple_of(number: i64, p: u32, marks: &mut [(i64, u32)]) -> Option<CellForm>
+fn multiple_of(number: i64, p: u32, marks: &mut [(Number, u32)]) -> Option<CellForm>
     ensures fits { IfSome result (λ f. f.count ≤ length marks.new) }
     ensures form { (cells : List shape.Cell) (q : Term) → stands cells q p ≡ true → FormOrShort cells (multiple_form number q) 1 result marks.new }
 {
@@ -100,7 +104,7 @@ fn lower(
     p: u32,
     cell: Cell,
     number: i64,
-    marks: &mut [(i64, u32)],
+    marks: &mut [(Number, u32)],
 ) -> Option<CellForm>
     ensures fits { IfSome result (λ f. f.count ≤ length marks.new) }
     ensures form { (t q : Term) → stands_below (stands cells.now.0 t) cell.a p ≡ true → stands cells.now.0 q p ≡ true → FormOrShort cells.now.0 (lower_form number q t) (nodes t + 1) result marks.new }
@@ -116,7 +120,7 @@ fn upper(
     p: u32,
     cell: Cell,
     number: i64,
-    marks: &mut [(i64, u32)],
+    marks: &mut [(Number, u32)],
 ) -> Option<CellForm>
     ensures fits { IfSome result (λ f. f.count ≤ length marks.new) }
     ensures form { (t q : Term) → stands_below (stands cells.now.0 t) cell.a p ≡ true → stands cells.now.0 q p ≡ true → FormOrShort cells.now.0 (upper_form number q t) (1 + nodes t) result marks.new }
@@ -127,7 +131,7 @@ fn upper(
 }
 
 /// The number times the quotient at a place, and the number less 1.
-fn last_of(cells: &Cells, number: i64, p: u32, marks: &mut [(i64, u32)]) -> Option<CellForm>
+fn last_of(cells: &Cells, number: i64, p: u32, marks: &mut [(Number, u32)]) -> Option<CellForm>
     ensures fits { IfSome result (λ f. f.count ≤ length marks.new) }
     ensures form { (q : Term) → stands cells.now.0 q p ≡ true → FormOrShort cells.now.0 (last_form number q) 1 result marks.new }
 {

@@ -14,8 +14,9 @@ mod naming;
 mod order;
 mod refuting;
 mod room;
-#[cfg(test)]
-mod tests;
+mod sequent;
+mod sheet;
 
 pub use difference::Short;
 pub use room::Room;
+pub use sequent::CellSequent;

@@ -4,7 +4,7 @@ ghost use Rattle.std.specs.Prelude.{◌≡◌, ◌+◌, ◌-◌, ◌^◌, ◌<�
 ghost use Rattle.std.specs.List.{list_all};
 ghost use Rattle.std.specs.Ordering.{int_eq};
 ghost use Rattle.num_theory.specs.Lines as spec;
-ghost use Rattle.cell_rows.specs.RowsIn.{LineAdded, LinesFound, RowsIn};
+ghost use Rattle.cell_rows.specs.working.RowsIn.{LineAdded, LinesFound, RowsIn};
 
 use crate::difference::Short;
 use math_terms::Line;
@@ -24,16 +24,17 @@ pub(crate) fn replay(
     ensures replayed { (rows : List (List ℤ)) → RowsIn width count rows places.old → LinesFound width (spec.with_lines lines.now rows) result places.new }
     ensures short { OnErr result (length places.old < count + length lines.now) }
 {
-    let Some(line) = first_line(lines) else {
-        return Ok(Some(count));
-    };
-    let Ok(added) = add_line(line, width, count, places) else {
-        return Err(Short);
-    };
-    if !added {
-        return Ok(None);
+    let mut total = count;
+    for line in lines {
+        let Ok(added) = add_line(*line, width, total, places) else {
+            return Err(Short);
+        };
+        if !added {
+            return Ok(None);
+        }
+        total += 1;
     }
-    replay(&lines[1..], width, count + 1, places)
+    Ok(Some(total))
 }
 
 /// Whether lines refute the first `count` rows, of `width` numbers. There is no answer where there are too few places.
@@ -90,12 +91,6 @@ fn number_at(row: &[i32], place: usize) -> i32
     ensures { result ≡ slice_index_or row.now place (pos 0) }
 {
     row.get(place).copied().unwrap_or(0)
-}
-
-fn first_line(lines: &[Line]) -> Option<Line>
-    ensures { result ≡ slice_get lines.now 0 }
-{
-    lines.get(0).copied()
 }
 
 /// Appends the row that a line makes behind the first `count`. The answer is whether the line makes one.

@@ -1,91 +1,69 @@
 //! The rows of a sequent by their names.
 
-ghost use Rattle.std.specs.Prelude.{◌≡◌, ◌<◌, ◌≤◌, ℕ, List, ◌∷◌, IfOk, IfSome, OnErr, ◌^◌, take, length, option_and_then, slice_get, true};
+ghost use Rattle.std.specs.Prelude.{◌≡◌, ◌<◌, ◌≤◌, ℕ, List, ◌∷◌, IfOk, IfSome, OnErr, ◌^◌, take, length, option_and_then};
 ghost use Rattle.std.specs.List.{flat_map};
 ghost use Rattle.math_terms.specs.declared.term.Term.{Term};
-ghost use Rattle.num_theory.specs.Naming.{rows_at_hand};
 ghost use Rattle.num_theory.specs.Table.{facts_of};
 ghost use Rattle.term_cells.specs.KindShown.{sorts_of_vars};
-ghost use Rattle.term_cells.specs.Standing.{stands};
-ghost use Rattle.cell_rows.specs.AtomsStand.{AtomsStand};
-ghost use Rattle.cell_rows.specs.Finding.{RowFound, numbered, row_by_name, row_of_some};
-ghost use Rattle.cell_rows.specs.RowsStand as rows;
-ghost use Rattle.cell_rows.specs.Small.{Small};
+ghost use Rattle.term_cells.specs.Placed.{AllStand};
+ghost use Rattle.cell_rows.specs.working.Finding.{RowFound, numbered, row_by_name, row_of_some};
+ghost use Rattle.cell_rows.specs.working.FormulaRows.{formula_row};
+ghost use Rattle.cell_rows.specs.Sequents.{SameRoom, TableStands};
+ghost use Rattle.cell_rows.specs.working.Small.{Small};
 
 use crate::difference::{CellRow, Short};
-use crate::fact::{count_facts, row_of_fact};
-use crate::formula::{first_row, goal_row, second_row};
-use math_terms::{Desc, Name, RowName};
-use term_cells::{Cells, Scratch};
+use crate::fact::count_facts;
+use crate::formula::Which;
+use crate::sequent::{CellSequent, CellTable};
+use crate::sheet::Sheet;
+use math_terms::RowName;
+use term_cells::Cells;
 
 // No certificate comes to as many atoms.
 const MOST_ATOMS: usize = 1 << 32;
 
-/// The row of this name, where there is one, of a sequent with hypotheses and a goal at these places. All its atoms stand at the places `atoms`.
-pub(crate) fn row_named(
-    cells: &Cells,
-    vars: &[(Name, Desc)],
-    hyps: &[u32],
-    goal: u32,
-    atoms: &[u32],
-    name: RowName,
-    scratch: &mut Scratch,
-    marks: &mut [(i64, u32)],
-) -> Result<Option<CellRow>, Short>
-    requires { length cells.now.0 ≤ scratch.old }
-    ensures room { scratch.new ≡ scratch.old }
-    ensures fits { IfOk result (λ row. IfSome row (λ r. r.count ≤ length marks.new)) }
-    ensures row { (hs : List Term) (g : Term) → AtomsStand cells.now.0 hs hyps.now → stands cells.now.0 g goal ≡ true → AtomsStand cells.now.0 (rows_at_hand (sorts_of_vars vars.now) hs g).atoms atoms.now → RowFound cells.now.0 (row_by_name (sorts_of_vars vars.now) hs g name) result marks.new }
-    ensures short { (hs : List Term) (g : Term) (most : ℕ) → AtomsStand cells.now.0 hs hyps.now → stands cells.now.0 g goal ≡ true → AtomsStand cells.now.0 (rows_at_hand (sorts_of_vars vars.now) hs g).atoms atoms.now → Small most (g ∷ hs) → OnErr result (length marks.old < most) }
-{
-    match name {
-        RowName::Hyp(k) => first_row_of(cells, vars, hyps, k, scratch, marks),
-        RowName::Second(k) => second_row_of(cells, vars, hyps, k, scratch, marks),
-        RowName::Atom(k) => fact_numbered(cells, among_first(atoms), k, scratch, marks),
-        RowName::Goal => goal_row(cells, goal, scratch, marks),
+impl<'a> CellTable<'a> {
+    /// The row of this name, where there is one.
+    pub(crate) fn row_named(
+        &self,
+        name: RowName,
+        sheet: &mut Sheet,
+    ) -> Result<Option<CellRow>, Short>
+        requires { length self.now.sequent.cells.now.0 ≤ sheet.old.scratch }
+        ensures room { SameRoom sheet.old sheet.new }
+        ensures fits { IfOk result (λ row. IfSome row (λ r. r.count ≤ length sheet.new.marks.items)) }
+        ensures row { (hs : List Term) (g : Term) → TableStands self.now hs g → RowFound self.now.sequent.cells.now.0 (row_by_name (sorts_of_vars self.now.sequent.vars.now) hs g name) result sheet.new.marks.items }
+        ensures short { (hs : List Term) (g : Term) (most : ℕ) → TableStands self.now hs g → Small most (g ∷ hs) → OnErr result (length sheet.old.marks.items < most) }
+    {
+        let sequent = &self.sequent;
+        match name {
+            RowName::Hyp(k) => sequent.hypothesis_row(Which::First, k, sheet),
+            RowName::Second(k) => sequent.hypothesis_row(Which::Second, k, sheet),
+            RowName::Atom(k) => fact_numbered(sequent.cells, among_first(self.atoms), k, sheet),
+            RowName::Goal => sequent.goal_row(sheet),
+        }
     }
 }
 
-/// The first row of the hypothesis of this number.
-fn first_row_of(
-    cells: &Cells,
-    vars: &[(Name, Desc)],
-    hyps: &[u32],
-    k: u32,
-    scratch: &mut Scratch,
-    marks: &mut [(i64, u32)],
-) -> Result<Option<CellRow>, Short>
-    requires { length cells.now.0 ≤ scratch.old }
-    ensures room { scratch.new ≡ scratch.old }
-    ensures fits { IfOk result (λ row. IfSome row (λ r. r.count ≤ length marks.new)) }
-    ensures row { (hs : List Term) → AtomsStand cells.now.0 hs hyps.now → RowFound cells.now.0 (option_and_then (rows.first_row (sorts_of_vars vars.now)) (numbered hs k)) result marks.new }
-    ensures short { (hs : List Term) (size : ℕ) → AtomsStand cells.now.0 hs hyps.now → Small size hs → OnErr result (length marks.old < size) }
-{
-    let Some(p) = place_numbered(hyps, k) else {
-        return Ok(None);
-    };
-    first_row(cells, vars, p, scratch, marks)
-}
-
-/// The second row of the hypothesis of this number.
-fn second_row_of(
-    cells: &Cells,
-    vars: &[(Name, Desc)],
-    hyps: &[u32],
-    k: u32,
-    scratch: &mut Scratch,
-    marks: &mut [(i64, u32)],
-) -> Result<Option<CellRow>, Short>
-    requires { length cells.now.0 ≤ scratch.old }
-    ensures room { scratch.new ≡ scratch.old }
-    ensures fits { IfOk result (λ row. IfSome row (λ r. r.count ≤ length marks.new)) }
-    ensures row { (hs : List Term) → AtomsStand cells.now.0 hs hyps.now → RowFound cells.now.0 (option_and_then (rows.second_row (sorts_of_vars vars.now)) (numbered hs k)) result marks.new }
-    ensures short { (hs : List Term) (size : ℕ) → AtomsStand cells.now.0 hs hyps.now → Small size hs → OnErr result (length marks.old < size) }
-{
-    let Some(p) = place_numbered(hyps, k) else {
-        return Ok(None);
-    };
-    second_row(cells, vars, p, scratch, marks)
+impl<'a> CellSequent<'a> {
+    /// A row of the hypothesis of this number.
+    fn hypothesis_row(
+        &self,
+        which: Which,
+        k: u32,
+        sheet: &mut Sheet,
+    ) -> Result<Option<CellRow>, Short>
+        requires { length self.now.cells.now.0 ≤ sheet.old.scratch }
+        ensures room { SameRoom sheet.old sheet.new }
+        ensures fits { IfOk result (λ row. IfSome row (λ r. r.count ≤ length sheet.new.marks.items)) }
+        ensures row { (hs : List Term) → AllStand self.now.cells.now.0 hs self.now.hyps.now → RowFound self.now.cells.now.0 (option_and_then (formula_row which (sorts_of_vars self.now.vars.now)) (numbered hs k)) result sheet.new.marks.items }
+        ensures short { (hs : List Term) (size : ℕ) → AllStand self.now.cells.now.0 hs self.now.hyps.now → Small size hs → OnErr result (length sheet.old.marks.items < size) }
+    {
+        let Some(p) = place_numbered(self.hyps, k) else {
+            return Ok(None);
+        };
+        self.formula_row(which, p, sheet)
+    }
 }
 
 /// The place of this number, counted from 1.
@@ -114,41 +92,24 @@ fn fact_numbered(
     cells: &Cells,
     atoms: &[u32],
     k: u32,
-    scratch: &mut Scratch,
-    marks: &mut [(i64, u32)],
+    sheet: &mut Sheet,
 ) -> Result<Option<CellRow>, Short>
-    requires { length cells.now.0 ≤ scratch.old }
-    ensures room { scratch.new ≡ scratch.old }
-    ensures fits { IfOk result (λ row. IfSome row (λ r. r.count ≤ length marks.new)) }
-    ensures row { (ts : List Term) → AtomsStand cells.now.0 ts atoms.now → RowFound cells.now.0 (row_of_some (numbered (flat_map facts_of ts) k)) result marks.new }
-    ensures short { (ts : List Term) (size : ℕ) → AtomsStand cells.now.0 ts atoms.now → Small size ts → OnErr result (length marks.old < size) }
+    requires { length cells.now.0 ≤ sheet.old.scratch }
+    ensures room { SameRoom sheet.old sheet.new }
+    ensures fits { IfOk result (λ row. IfSome row (λ r. r.count ≤ length sheet.new.marks.items)) }
+    ensures row { (ts : List Term) → AllStand cells.now.0 ts atoms.now → RowFound cells.now.0 (row_of_some (numbered (flat_map facts_of ts) k)) result sheet.new.marks.items }
+    ensures short { (ts : List Term) (size : ℕ) → AllStand cells.now.0 ts atoms.now → Small size ts → OnErr result (length sheet.old.marks.items < size) }
 {
     if k == 0 {
         return Ok(None);
     }
-    fact_at(cells, atoms, k - 1, scratch, marks)
-}
-
-/// The same, counted from 0.
-fn fact_at(
-    cells: &Cells,
-    atoms: &[u32],
-    k: u32,
-    scratch: &mut Scratch,
-    marks: &mut [(i64, u32)],
-) -> Result<Option<CellRow>, Short>
-    requires { length cells.now.0 ≤ scratch.old }
-    ensures room { scratch.new ≡ scratch.old }
-    ensures fits { IfOk result (λ row. IfSome row (λ r. r.count ≤ length marks.new)) }
-    ensures row { (ts : List Term) → AtomsStand cells.now.0 ts atoms.now → RowFound cells.now.0 (row_of_some (slice_get (flat_map facts_of ts) k)) result marks.new }
-    ensures short { (ts : List Term) (size : ℕ) → AtomsStand cells.now.0 ts atoms.now → Small size ts → OnErr result (length marks.old < size) }
-{
-    if atoms.is_empty() {
-        return Ok(None);
+    let mut left = k - 1;
+    for atom in atoms {
+        let facts = count_facts(cells, *atom);
+        if left < facts {
+            return sheet.row_of_fact(cells, *atom, left);
+        }
+        left -= facts;
     }
-    let facts = count_facts(cells, atoms[0]);
-    if k < facts {
-        return row_of_fact(cells, atoms[0], k, scratch, marks);
-    }
-    fact_at(cells, &atoms[1..], k - facts, scratch, marks)
+    Ok(None)
 }

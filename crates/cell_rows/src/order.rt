@@ -1,10 +1,12 @@
 //! Products without those of coefficient 0, in the order of their atoms' texts.
 
-ghost use Rattle.std.specs.Prelude.{◌≡◌, ◌≤◌, ◌∷◌, List, length, take, not};
+ghost use Rattle.std.specs.Prelude.{◌≡◌, ◌≤◌, ◌∷◌, List, length, take, not, true};
 ghost use Rattle.std.specs.List.{filter};
 ghost use Rattle.num_theory.specs.Linear as spec;
-ghost use Rattle.cell_rows.specs.Forms.{Mark, ProductsStand};
+ghost use Rattle.num_theory.specs.Number.{is_zero};
+ghost use Rattle.cell_rows.specs.Forms.{Mark, ProductsStand, RawStand};
 
+use num_theory::Number;
 use term_cells::{Cells, Scratch};
 
 /// The products that are shown, among the first `count`, come first, in order. The answer is how many there are.
@@ -12,13 +14,13 @@ pub(crate) fn shown(
     cells: &Cells,
     count: usize,
     scratch: &mut Scratch,
-    marks: &mut [(i64, u32)],
+    marks: &mut [(Number, u32)],
 ) -> usize
     requires readable { length cells.now.0 ≤ scratch.old }
     requires within { count ≤ length marks.old }
     ensures room { scratch.new ≡ scratch.old }
     ensures few { result ≤ count }
-    ensures shown { (ps : List spec.Product) → ProductsStand cells.now.0 ps (take count marks.old) → ProductsStand cells.now.0 (spec.shown ps) (take result marks.new) }
+    ensures shown { (ps : List spec.RawProduct) → spec.narrow_products ps ≡ true → RawStand cells.now.0 ps (take count marks.old) → ProductsStand cells.now.0 (spec.shown ps) (take result marks.new) }
 {
     let kept = drop_zeros(&mut marks[..count]);
     in_text_order(cells, scratch, &mut marks[..kept]);
@@ -26,14 +28,14 @@ pub(crate) fn shown(
 }
 
 /// The products with coefficients other than 0 come first. The answer is how many there are.
-fn drop_zeros(marks: &mut [(i64, u32)]) -> usize
+fn drop_zeros(marks: &mut [(Number, u32)]) -> usize
     ensures few { result ≤ length marks.old }
-    ensures kept { take result marks.new ≡ filter (λ m. not (spec.is_zero m.0)) marks.old }
+    ensures kept { take result marks.new ≡ filter (λ m. not (is_zero m.0)) marks.old }
 {
     let mut kept = 0;
     for k in 0..marks.len() {
         let mark = marks[k];
-        if !is_zero(mark.0) {
+        if !mark.0.is_zero() {
             marks[kept] = mark;
             kept += 1;
         }
@@ -41,13 +43,7 @@ fn drop_zeros(marks: &mut [(i64, u32)]) -> usize
     kept
 }
 
-fn is_zero(number: i64) -> bool
-    ensures { result ≡ spec.is_zero number }
-{
-    number == 0
-}
-
-fn in_text_order(cells: &Cells, scratch: &mut Scratch, marks: &mut [(i64, u32)])
+fn in_text_order(cells: &Cells, scratch: &mut Scratch, marks: &mut [(Number, u32)])
     requires { length cells.now.0 ≤ scratch.old }
     ensures room { scratch.new ≡ scratch.old }
     ensures ordered { (ps : List spec.Product) → ProductsStand cells.now.0 ps marks.old → ProductsStand cells.now.0 (spec.in_text_order ps) marks.new }
@@ -60,7 +56,7 @@ fn in_text_order(cells: &Cells, scratch: &mut Scratch, marks: &mut [(i64, u32)])
 }
 
 /// The first product goes to its place among the others, which are in order.
-fn insert(cells: &Cells, scratch: &mut Scratch, marks: &mut [(i64, u32)])
+fn insert(cells: &Cells, scratch: &mut Scratch, marks: &mut [(Number, u32)])
     requires { length cells.now.0 ≤ scratch.old }
     ensures room { scratch.new ≡ scratch.old }
     ensures placed { (p : spec.Product) (ps : List spec.Product) → ProductsStand cells.now.0 (p ∷ ps) marks.old → ProductsStand cells.now.0 (spec.insert_product p ps) marks.new }

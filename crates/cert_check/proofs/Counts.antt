@@ -13,38 +13,14 @@ use Rattle.vc_sequents.specs.Splitting as rule
 use Rattle.vc_sequents.specs.Splitting.{GoalCase, in_place, with_case, with_goal_case}
 use Rattle.cert_check.specs.declared.cases.Part.{Part}
 use Rattle.cert_check.specs.declared.cases.Part.TheVariants.{At, Truth, Not, Two, OfNegations, AndNot}
-use Rattle.cert_check.specs.Cases.{PartIs, made}
+use Rattle.cert_check.specs.working.Cases.{PartIs, made}
 use Rattle.cert_check.specs.Need.{sequent_nodes}
-use Rattle.cert_check.specs.Path.{AllStand}
+use Rattle.term_cells.specs.Placed.{AllStand}
 use Rattle.cert_check.proofs.Sizes.{not_nodes, and_nodes}
 
 step_some : (x : Term-F ℕ) → 1 ≤ nodes_step x
 step_some (Term-F.Num n) = omega arith
-step_some (Term-F.Truth b) = omega arith
-step_some Term-F.MinInt = omega arith
-step_some Term-F.MaxInt = omega arith
-step_some (Term-F.Var k) = omega arith
-step_some (Term-F.Add a b) = omega arith
-step_some (Term-F.Sub a b) = omega arith
-step_some (Term-F.Mul a b) = omega arith
-step_some (Term-F.Div a b) = omega arith
-step_some (Term-F.Mod a b) = omega arith
-step_some (Term-F.Len a) = omega arith
-step_some Term-F.Empty = omega arith
-step_some (Term-F.Single a) = omega arith
-step_some (Term-F.Cat a b) = omega arith
-step_some (Term-F.Reverse a) = omega arith
-step_some (Term-F.Part i j a) = omega arith
-step_some (Term-F.Tuple parts) = omega arith
-step_some (Term-F.Proj k a) = omega arith
-step_some (Term-F.Eq a b) = omega arith
-step_some (Term-F.Less a b) = omega arith
-step_some (Term-F.LessEq a b) = omega arith
-step_some (Term-F.Not a) = omega arith
-step_some (Term-F.And a b) = omega arith
-step_some (Term-F.Or a b) = omega arith
-step_some (Term-F.Implies a b) = omega arith
-step_some (Term-F.Initial k a) = omega arith
+step_some x = omega arith
 
 pub some_node : (t : Term) → 1 ≤ nodes t
 some_node t = subst (λ n. 1 ≤ n) (sym (fold_out-Term ℕ nodes_step t)) (step_some (map-Term Term ℕ nodes (out-Term t)))

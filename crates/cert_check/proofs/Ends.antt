@@ -6,7 +6,7 @@ use Rattle.cert_check.specs.declared.verdict.Verdict.TheVariants as verdict
 use Rattle.cert_check.specs.declared.walk.Stop.{Stop}
 use Rattle.cert_check.specs.declared.walk.Stop.TheVariants.{Illegal}
 use Rattle.cert_check.specs.Legality.{verdict_from, verdict_of}
-use Rattle.cert_check.specs.Walking.{Walked}
+use Rattle.cert_check.specs.working.Walking.{Walked}
 
 left_over : (sts : List Step) (n : ℕ) → 0 < length sts → verdict_from sts n [] ≡ verdict.Illegal n
 left_over [] n h = absurd (omega arith)

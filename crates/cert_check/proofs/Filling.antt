@@ -11,11 +11,12 @@ use Rattle.vc_sequents.specs.Splitting.{GoalCase, in_place, with_case, with_goal
 use Rattle.cert_check.specs.declared.cases.Case.{Case}
 use Rattle.cert_check.specs.declared.cases.Part.{Part}
 use Rattle.cert_check.specs.declared.path.Path.{Path}
-use Rattle.cert_check.specs.Cases.{FormulasAre, GoalIs, PartIs, made}
-use Rattle.cert_check.specs.Children.{ChildIs}
+use Rattle.cert_check.specs.working.Cases.{FormulasAre, GoalIs, PartIs, made}
+use Rattle.cert_check.specs.working.Children.{ChildIs}
 use Rattle.cert_check.specs.Need.{sequent_nodes}
-use Rattle.cert_check.specs.Path.{AllStand, Puts}
-use Rattle.cert_check.specs.Room.{Holds, Takes}
+use Rattle.term_cells.specs.Placed.{AllStand}
+use Rattle.cert_check.specs.working.Path.{Puts}
+use Rattle.cert_check.specs.working.Room.{Holds, Takes}
 use Rattle.cert_check.proofs.Counts.{case_total, counted, goal_case_total, in_place_total, part_made, some_node, stand_counted}
 
 abbrev places_of : List ℕ × ℕ → List ℕ

@@ -9,8 +9,8 @@ use Rattle.vc_sequents.specs.Splitting.{GoalCase, goal_cases, hypothesis_cases, 
 use Rattle.cert_form.specs.declared.cert.Step.TheVariants as step
 use Rattle.cert_check.specs.declared.cases.Cases.{Cases}
 use Rattle.cert_check.specs.declared.cases.Cases.TheVariants as split
-use Rattle.cert_check.specs.Cases.{CasesAre, GoalCasesAre}
-use Rattle.cert_check.specs.Children.{CasesAt, ChildIs, HypothesisCasesAre, SplitIs, count_of}
+use Rattle.cert_check.specs.working.Cases.{CasesAre, GoalCasesAre}
+use Rattle.cert_check.specs.working.Children.{CasesAt, ChildIs, HypothesisCasesAre, SplitIs, count_of}
 use Rattle.cert_check.specs.Legality.{gives, of_length, small_cases, small_goal_cases}
 
 -- so many sequents, where their formulas are small

@@ -9,7 +9,7 @@ use Rattle.term_cells.specs.Laws.{StandingLasts}
 use Rattle.term_cells.specs.Standing.{stands}
 use Rattle.vc_sequents.specs.Splitting.{not as not_of}
 use Rattle.cert_check.specs.declared.cases.Part.TheVariants.{Two, OfNegations, AndNot}
-use Rattle.cert_check.specs.Cases.{PartIs}
+use Rattle.cert_check.specs.working.Cases.{PartIs}
 
 pub there : (cells : List Cell) (k : ℕ) (n : ℤ) (ts : List Term) (x : Term-F Term) (t : Term) (r : Option ℕ) → HasHead x k n ts → IsFewForm k → t ≡ roll-Term x → StandsAs cells k n ts r → StandsThere cells t r
 there cells k n ts x t None head few e h = tt

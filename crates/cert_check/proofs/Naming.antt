@@ -9,9 +9,9 @@ use Rattle.term_cells.specs.Standing.{stands}
 use Rattle.vc_sequents.specs.declared.sequent.Sequent.{Sequent}
 use Rattle.vc_sequents.specs.Splitting.{goal_cases, hypothesis_cases, sorts_of}
 use Rattle.cert_check.specs.declared.cases.Cases.{Cases}
-use Rattle.cert_check.specs.Cases.{CasesAre, GoalCasesAre}
-use Rattle.cert_check.specs.Children.{CasesAt, HypothesisCasesAre}
-use Rattle.cert_check.specs.Path.{StandsIn, named}
+use Rattle.cert_check.specs.working.Cases.{CasesAre, GoalCasesAre}
+use Rattle.cert_check.specs.working.Children.{CasesAt, HypothesisCasesAre}
+use Rattle.cert_check.specs.working.Path.{StandsIn, named}
 use Rattle.cert_check.proofs.Telling.{named_at, unnamed_at}
 
 module _ (cells : List Cell) (vars : List (Name × Desc)) (s : Sequent) (same : s.vars ≡ vars) (hyps : List ℕ) (goal : ℕ) (standing : StandsIn cells hyps goal s) (r : Option Cases) where

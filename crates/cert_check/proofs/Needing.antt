@@ -6,7 +6,7 @@ use Rattle.cert_check.specs.declared.walk.Stop.{Stop}
 use Rattle.cert_check.specs.declared.walk.Stop.TheVariants.{Illegal, Full}
 use Rattle.cert_check.specs.Legality.{gives}
 use Rattle.cert_check.specs.Need.{Standing, below, need_from, path_nodes, row_room}
-use Rattle.cert_check.specs.Room.{Needs}
+use Rattle.cert_check.specs.working.Room.{Needs}
 use Rattle.cert_check.proofs.Walks.{drop_some}
 
 need_some : (sts : List Step) (p : Standing) (rest : List Standing) → 0 < length sts → path_nodes p ≤ need_from sts (p ∷ rest)

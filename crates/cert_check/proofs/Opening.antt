@@ -13,9 +13,10 @@ use Rattle.cert_check.specs.declared.cases.Part.{Part}
 use Rattle.cert_check.specs.declared.cases.Part.TheVariants.{At, Truth, Not, Two, OfNegations, AndNot}
 use Rattle.cert_check.specs.declared.cases.Case.{Case}
 use Rattle.cert_check.specs.declared.cases.Case.TheVariants.{Nothing, Only, Both}
-use Rattle.cert_check.specs.Cases.{FormulasAre, GoalIs, PartIs}
-use Rattle.cert_check.specs.Children.{ChildIs, Opens}
-use Rattle.cert_check.specs.Path.{Adds, AllStand, Puts, StandsIn}
+use Rattle.cert_check.specs.working.Cases.{FormulasAre, GoalIs, PartIs}
+use Rattle.cert_check.specs.working.Children.{ChildIs, Opens}
+use Rattle.term_cells.specs.Placed.{AllStand}
+use Rattle.cert_check.specs.working.Path.{Adds, Puts, StandsIn}
 
 pub all_joined : (cells : List Cell) (ts us : List Term) (ps qs : List ℕ) → AllStand cells ts ps → AllStand cells us qs → AllStand cells (ts ++ us) (ps ++ qs)
 all_joined cells [] us [] qs h g = g

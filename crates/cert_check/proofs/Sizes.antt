@@ -8,7 +8,7 @@ use Rattle.math_terms.specs.declared.term.Term.TheOpen.{Term-F}
 use Rattle.math_terms.specs.declared.term.Term.TheFolds.{fold-roll-Term}
 use Rattle.math_terms.specs.Terms.{nodes, nodes_step}
 use Rattle.vc_sequents.specs.Splitting as rule
-use Rattle.cert_check.specs.Cases.{IsOver}
+use Rattle.cert_check.specs.working.Cases.{IsOver}
 use Rattle.cert_check.specs.Legality.{is_small, most_nodes}
 
 small_number : (r n : ℕ) → r ≡ min n (10000 + 1) → leb r 10000 ≡ leb n 10000

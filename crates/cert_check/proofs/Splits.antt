@@ -18,7 +18,7 @@ use Rattle.cert_check.specs.declared.cases.Part.TheVariants.{At, Truth, Not, Two
 use Rattle.cert_check.specs.declared.cases.Case.TheVariants.{Nothing, Only, Both}
 use Rattle.cert_check.specs.declared.cases.Cases.{Cases}
 use Rattle.cert_check.specs.declared.cases.Cases.TheVariants as split
-use Rattle.cert_check.specs.Cases.{CasesAre, GoalCasesAre, IsOver}
+use Rattle.cert_check.specs.working.Cases.{CasesAre, GoalCasesAre, IsOver}
 use Rattle.cert_check.proofs.Telling.{form_told}
 
 few : (k : ℕ) → IsFewForm 18 × IsFewForm 19 × IsFewForm 20 × IsFewForm 22 × IsFewForm 23 × IsFewForm 24

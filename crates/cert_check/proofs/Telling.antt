@@ -11,7 +11,8 @@ use Rattle.term_cells.specs.declared.cell.Cell.{Cell}
 use Rattle.term_cells.specs.Standing.{stands}
 use Rattle.term_cells.specs.Laws.{LeavesOpen, OneOpens, StandingOpens, TwoOpens}
 use Rattle.cert_check.specs.Legality.{clash, false_form, identity_form, is_false, is_identity, is_negation_of, is_true, negation_form, passes, true_form}
-use Rattle.cert_check.specs.Path.{AllStand, named}
+use Rattle.term_cells.specs.Placed.{AllStand}
+use Rattle.cert_check.specs.working.Path.{named}
 
 true_form_other : (x : Term-F Term) → (form x ≡ 1 → ⊥) → true_form x ≡ false
 true_form_other (Term-F.Truth b) h = absurd (h refl)

@@ -20,9 +20,10 @@ use Rattle.cert_check.specs.declared.cases.Case.{Case}
 use Rattle.cert_check.specs.declared.walk.Stop.{Stop}
 use Rattle.cert_check.specs.declared.walk.Stop.TheVariants.{Illegal, Full}
 use Rattle.cert_check.specs.Legality as rule
-use Rattle.cert_check.specs.Children.{ChildIs, Opens}
-use Rattle.cert_check.specs.Path.{AllStand, StandsIn, TestOfTerm, named}
-use Rattle.cert_check.specs.Walking.{Walked}
+use Rattle.cert_check.specs.working.Children.{ChildIs, Opens}
+use Rattle.term_cells.specs.Placed.{AllStand}
+use Rattle.cert_check.specs.working.Path.{StandsIn, TestOfTerm, named}
+use Rattle.cert_check.specs.working.Walking.{Walked}
 
 pub drop_some : {A : Type 0} (xs : List A) (n : ℕ) (x : A) → slice_get xs n ≡ Some x → drop n xs ≡ x ∷ drop (suc n) xs
 drop_some [] n x e = cc

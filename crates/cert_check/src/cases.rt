@@ -11,7 +11,7 @@ ghost use Rattle.math_terms.specs.Terms.{nodes};
 ghost use Rattle.vc_sequents.specs.Splitting as rule;
 ghost use Rattle.term_cells.specs.Growing.{Grows, IsShort, StandsThere};
 ghost use Rattle.term_cells.specs.Standing.{stands};
-ghost use Rattle.cert_check.specs.Cases.{CasesAre, FormulasAre, GoalCasesAre, GoalIs, PartIs, made};
+ghost use Rattle.cert_check.specs.working.Cases.{CasesAre, FormulasAre, GoalCasesAre, GoalIs, PartIs, made};
 ghost use Rattle.cert_check.specs.Legality.{small_cases, small_goal_cases, is_small as is_small_term};
 
 use math_terms::{Desc, Name};

@@ -5,7 +5,8 @@ ghost use Rattle.math_terms.specs.declared.term.Term.{Term};
 ghost use Rattle.math_terms.specs.Heads.{same_term};
 ghost use Rattle.term_cells.specs.Standing.{stands};
 ghost use Rattle.cert_check.specs.Legality as rule;
-ghost use Rattle.cert_check.specs.Path.{AllStand, TestOfTerm, named};
+ghost use Rattle.term_cells.specs.Placed.{AllStand};
+ghost use Rattle.cert_check.specs.working.Path.{TestOfTerm, named};
 
 use math_terms::same_terms_are_equal;
 use term_cells::{Cells, leaves_open, one_opens, standing_opens, two_opens};

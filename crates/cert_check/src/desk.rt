@@ -5,8 +5,8 @@ ghost use Rattle.vc_sequents.specs.declared.sequent.Sequent.{Sequent};
 ghost use Rattle.vc_sequents.specs.Splitting.{IsValidSequent};
 ghost use Rattle.cert_check.specs.Legality.{verdict_of};
 ghost use Rattle.cert_check.specs.Need.{need_of};
-ghost use Rattle.cert_check.specs.Room.{Needs};
-ghost use Rattle.cert_check.specs.Walking.{Walked};
+ghost use Rattle.cert_check.specs.working.Room.{Needs};
+ghost use Rattle.cert_check.specs.working.Walking.{Walked};
 
 use crate::laws::legal_is_valid;
 use crate::path::Path;

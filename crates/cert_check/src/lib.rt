@@ -7,8 +7,6 @@ mod desk;
 mod laws;
 mod path;
 mod places;
-#[cfg(test)]
-mod tests;
 mod verdict;
 mod walk;
 

@@ -8,11 +8,12 @@ ghost use Rattle.term_cells.specs.Growing.{Grows};
 ghost use Rattle.term_cells.specs.Standing.{stands};
 ghost use Rattle.vc_sequents.specs.declared.sequent.Sequent.{Sequent};
 ghost use Rattle.vc_sequents.specs.Splitting.{GoalCase, in_place, with_goal_case};
-ghost use Rattle.cert_check.specs.Cases.{FormulasAre, GoalIs, PartIs, made, made_case};
+ghost use Rattle.cert_check.specs.working.Cases.{FormulasAre, GoalIs, PartIs, made, made_case};
 ghost use Rattle.cert_check.specs.Need.{sequent_nodes};
-ghost use Rattle.cert_check.specs.Path.{Adds, AllStand, StandsIn};
-ghost use Rattle.cert_check.specs.Room.{Ends, HasRoom, Takes};
-ghost use Rattle.cert_check.specs.Children.{CasesAt, ChildIs, Opens, SplitIs, count_of};
+ghost use Rattle.term_cells.specs.Placed.{AllStand};
+ghost use Rattle.cert_check.specs.working.Path.{Adds, StandsIn};
+ghost use Rattle.cert_check.specs.working.Room.{Ends, HasRoom, Takes};
+ghost use Rattle.cert_check.specs.working.Children.{CasesAt, ChildIs, Opens, SplitIs, count_of};
 
 use crate::cases::{Case, Cases, Part, are_small, goal_cases, hypothesis_cases, make};
 use crate::closing::named;

@@ -1,7 +1,7 @@
 //! A stack of places, in room that is taken once.
 
 ghost use Rattle.std.specs.Prelude.{◌≡◌, ◌-◌, ◌≤◌, [], ◌∷◌, length, take, drop, slice_get, IfOk};
-ghost use Rattle.cert_check.specs.Path.{Puts};
+ghost use Rattle.cert_check.specs.working.Path.{Puts};
 
 use math_terms::NoMemory;
 use std::alloc::Global;

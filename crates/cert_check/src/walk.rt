@@ -3,15 +3,16 @@
 ghost use Rattle.std.specs.Prelude.{◌≡◌, ℕ, ◌+◌, ◌*◌, ◌^◌, ◌<◌, ◌≤◌, false, drop, length, slice_get, IfNone, IfOk, IfSome, OnOk, Some};
 ghost use Rattle.vc_sequents.specs.declared.sequent.Sequent.{Sequent};
 ghost use Rattle.cert_check.specs.Legality.{gives, linear_step, when};
-ghost use Rattle.cert_check.specs.Path.{StandsIn};
-ghost use Rattle.cert_check.specs.Children.{ChildIs};
+ghost use Rattle.cert_check.specs.working.Path.{StandsIn};
+ghost use Rattle.cert_check.specs.working.Children.{ChildIs};
 ghost use Rattle.cert_check.specs.Need.{row_room, sequent_nodes};
-ghost use Rattle.cert_check.specs.Room.{HasRoom, Holds, Needs};
-ghost use Rattle.cert_check.specs.Walking.{Walked, is_split};
+ghost use Rattle.cert_check.specs.working.Room.{HasRoom, Holds, Needs};
+ghost use Rattle.cert_check.specs.working.Walking.{Walked, is_split};
 
 use crate::cases::{Case, Cases};
 use crate::closing::{allows_absurd, allows_clash, allows_hyp, allows_same};
 use crate::path::Path;
+use cell_rows::CellSequent;
 use cert_form::Step;
 use math_terms::{Desc, Line, Name, RowName};
 use vc_sequents::Sequent;
@@ -70,11 +71,13 @@ impl Path {
     {
         // This says that the cells are no more than there is room for.
         let _count = self.cells.held();
-        let hyps = self.places.from(start);
-        match self
-            .sheet
-            .linear_test(&self.cells, vars, hyps, goal, rows, lines)
-        {
+        let sequent = CellSequent {
+            cells: &self.cells,
+            vars,
+            hyps: self.places.from(start),
+            goal,
+        };
+        match self.sheet.linear_test(&sequent, rows, lines) {
             Ok(holds) => Some(holds),
             Err(_) => None,
         }

@@ -9,7 +9,7 @@ use Rattle.math_terms.specs.declared.term.Term.TheViews.{roll-Term, out-Term, ou
 use Rattle.math_terms.specs.declared.term.Term.TheFolds.{map-Term}
 use Rattle.math_terms.specs.Heads.{children, form, own}
 use Rattle.term_cells.specs.declared.cell.Cell.{Cell}
-use Rattle.term_cells.specs.Arity.{arity}
+use Rattle.term_cells.specs.working.Arity.{arity}
 use Rattle.term_cells.specs.Growing.{HasHead}
 use Rattle.term_cells.specs.Laws.{IsNodeAt, StandsOne, StandsTwo, LeavesOpen, children_at, is_plain_form}
 use Rattle.term_cells.specs.Standing.{few_stand, quotient_stands, stands, stands_below}
@@ -42,30 +42,10 @@ standing_opens cells t at h =
 plain_own : {A : Type 0} (x : Term-F A) → is_plain_form (form x) ≡ true → own x ≡ pos 0
 plain_own (Term-F.Num n) h = cc
 plain_own (Term-F.Truth b) h = cc
-plain_own Term-F.MinInt h = refl
-plain_own Term-F.MaxInt h = refl
 plain_own (Term-F.Var k) h = cc
-plain_own (Term-F.Add a b) h = refl
-plain_own (Term-F.Sub a b) h = refl
-plain_own (Term-F.Mul a b) h = refl
-plain_own (Term-F.Div a b) h = refl
-plain_own (Term-F.Mod a b) h = refl
-plain_own (Term-F.Len a) h = refl
-plain_own Term-F.Empty h = refl
-plain_own (Term-F.Single a) h = refl
-plain_own (Term-F.Cat a b) h = refl
-plain_own (Term-F.Reverse a) h = refl
-plain_own (Term-F.Part i j a) h = refl
-plain_own (Term-F.Tuple parts) h = refl
 plain_own (Term-F.Proj k a) h = cc
-plain_own (Term-F.Eq a b) h = refl
-plain_own (Term-F.Less a b) h = refl
-plain_own (Term-F.LessEq a b) h = refl
-plain_own (Term-F.Not a) h = refl
-plain_own (Term-F.And a b) h = refl
-plain_own (Term-F.Or a b) h = refl
-plain_own (Term-F.Implies a b) h = refl
 plain_own (Term-F.Initial k a) h = cc
+plain_own x h = refl
 
 plain_tests : (k : ℕ) → is_plain_form k ≡ true → (b : Bool) → (k == 16) ≡ b → (k == 16) ≡ false
 plain_tests k h false e = e

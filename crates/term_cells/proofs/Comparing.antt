@@ -5,7 +5,7 @@ use Rattle.math_terms.specs.declared.term.Term.{Term}
 use Rattle.math_terms.specs.declared.term.Term.TheViews.{out-Term}
 use Rattle.math_terms.specs.Heads.{children, form, own}
 use Rattle.term_cells.specs.declared.cell.Cell.{Cell}
-use Rattle.term_cells.specs.Arity.{arity}
+use Rattle.term_cells.specs.working.Arity.{arity}
 use Rattle.term_cells.specs.Standing.{few_stand, parts_stand, stands, stands_below}
 use Rattle.term_cells.proofs.Apart.{below_from, below_parts, end_parts, link_parts}
 use Rattle.term_cells.proofs.Forms.{children_counted, same_terms}

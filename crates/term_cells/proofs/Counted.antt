@@ -7,8 +7,8 @@ use Rattle.math_terms.specs.declared.term.Term.TheViews.{out-Term}
 use Rattle.math_terms.specs.Heads.{children}
 use Rattle.math_terms.specs.Terms.{nodes}
 use Rattle.term_cells.specs.declared.cell.Cell.{Cell}
-use Rattle.term_cells.specs.Arity.{arity}
-use Rattle.term_cells.specs.Counting.{Leaves}
+use Rattle.term_cells.specs.working.Arity.{arity}
+use Rattle.term_cells.specs.working.Counting.{Leaves}
 use Rattle.term_cells.specs.Standing.{few_stand, parts_stand, stands, stands_below}
 use Rattle.term_cells.proofs.Comparing.{first_below, second_below, third_below, end_cell, link_cell}
 use Rattle.term_cells.proofs.Forms.{children_counted, nodes_by_list}

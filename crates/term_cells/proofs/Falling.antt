@@ -9,8 +9,8 @@ use Rattle.num_theory.specs.Texts.{text}
 use Rattle.term_cells.specs.declared.cell.Cell.{Cell}
 use Rattle.term_cells.specs.declared.reading.Frame.{Frame}
 use Rattle.term_cells.specs.declared.before.Next.TheVariants.{Child, Done}
-use Rattle.term_cells.specs.Pieces.{HasPieces, NextIs, joined, nth, term_pieces}
-use Rattle.term_cells.specs.Reading.{FramesRead, Reads, State, frame_weight, frames_weight, unit, weight}
+use Rattle.term_cells.specs.working.Pieces.{HasPieces, NextIs, joined, nth, term_pieces}
+use Rattle.term_cells.specs.working.Reading.{FramesRead, Reads, State, frame_weight, frames_weight, unit, weight}
 use Rattle.term_cells.specs.Standing.{stands}
 use Rattle.term_cells.proofs.Laid.{joined_from, term_joined}
 

@@ -11,37 +11,13 @@ use Rattle.math_terms.specs.Heads.{form, own, children}
 use Rattle.math_terms.specs.Terms.{nodes, nodes_step}
 use Rattle.term_cells.specs.declared.cell.Cell.{Cell}
 use Rattle.term_cells.specs.Standing.{children_stand, few_stand, parts_stand, quotient_stands}
-use Rattle.term_cells.specs.Arity.{arity}
+use Rattle.term_cells.specs.working.Arity.{arity}
 
 -- a node whose children are mapped has the same form and the same number of its own
 pub mapped_heads : {A B : Type 0} (f : A → B) (x : Term-F A) →
     (form (map-Term A B f x) ≡ form x) × (own (map-Term A B f x) ≡ own x) × (children (map-Term A B f x) ≡ map f (children x))
 mapped_heads f (Term-F.Num n) = (refl, refl, refl)
-mapped_heads f (Term-F.Truth b) = (refl, refl, refl)
-mapped_heads f Term-F.MinInt = (refl, refl, refl)
-mapped_heads f Term-F.MaxInt = (refl, refl, refl)
-mapped_heads f (Term-F.Var k) = (refl, refl, refl)
-mapped_heads f (Term-F.Add a b) = (refl, refl, refl)
-mapped_heads f (Term-F.Sub a b) = (refl, refl, refl)
-mapped_heads f (Term-F.Mul a b) = (refl, refl, refl)
-mapped_heads f (Term-F.Div a b) = (refl, refl, refl)
-mapped_heads f (Term-F.Mod a b) = (refl, refl, refl)
-mapped_heads f (Term-F.Len a) = (refl, refl, refl)
-mapped_heads f Term-F.Empty = (refl, refl, refl)
-mapped_heads f (Term-F.Single a) = (refl, refl, refl)
-mapped_heads f (Term-F.Cat a b) = (refl, refl, refl)
-mapped_heads f (Term-F.Reverse a) = (refl, refl, refl)
-mapped_heads f (Term-F.Part i j a) = (refl, refl, refl)
-mapped_heads f (Term-F.Tuple parts) = (refl, refl, refl)
-mapped_heads f (Term-F.Proj k a) = (refl, refl, refl)
-mapped_heads f (Term-F.Eq a b) = (refl, refl, refl)
-mapped_heads f (Term-F.Less a b) = (refl, refl, refl)
-mapped_heads f (Term-F.LessEq a b) = (refl, refl, refl)
-mapped_heads f (Term-F.Not a) = (refl, refl, refl)
-mapped_heads f (Term-F.And a b) = (refl, refl, refl)
-mapped_heads f (Term-F.Or a b) = (refl, refl, refl)
-mapped_heads f (Term-F.Implies a b) = (refl, refl, refl)
-mapped_heads f (Term-F.Initial k a) = (refl, refl, refl)
+mapped_heads f x = (refl, refl, refl)
 
 -- how the children of a node of a form stand
 abbrev pub form_stands : List Cell → ℕ → List (ℕ → Bool) → Cell → ℕ → Bool
@@ -52,59 +28,11 @@ form_stands cells k ps c node =
 
 pub children_stand_is : (cells : List Cell) (x : Term-F (ℕ → Bool)) (c : Cell) (node : ℕ) → children_stand cells x c node ≡ form_stands cells (form x) (children x) c node
 children_stand_is cells (Term-F.Num n) c node = refl
-children_stand_is cells (Term-F.Truth b) c node = refl
-children_stand_is cells Term-F.MinInt c node = refl
-children_stand_is cells Term-F.MaxInt c node = refl
-children_stand_is cells (Term-F.Var k) c node = refl
-children_stand_is cells (Term-F.Add a b) c node = refl
-children_stand_is cells (Term-F.Sub a b) c node = refl
-children_stand_is cells (Term-F.Mul a b) c node = refl
-children_stand_is cells (Term-F.Div a b) c node = refl
-children_stand_is cells (Term-F.Mod a b) c node = refl
-children_stand_is cells (Term-F.Len a) c node = refl
-children_stand_is cells Term-F.Empty c node = refl
-children_stand_is cells (Term-F.Single a) c node = refl
-children_stand_is cells (Term-F.Cat a b) c node = refl
-children_stand_is cells (Term-F.Reverse a) c node = refl
-children_stand_is cells (Term-F.Part i j a) c node = refl
-children_stand_is cells (Term-F.Tuple parts) c node = refl
-children_stand_is cells (Term-F.Proj k a) c node = refl
-children_stand_is cells (Term-F.Eq a b) c node = refl
-children_stand_is cells (Term-F.Less a b) c node = refl
-children_stand_is cells (Term-F.LessEq a b) c node = refl
-children_stand_is cells (Term-F.Not a) c node = refl
-children_stand_is cells (Term-F.And a b) c node = refl
-children_stand_is cells (Term-F.Or a b) c node = refl
-children_stand_is cells (Term-F.Implies a b) c node = refl
-children_stand_is cells (Term-F.Initial k a) c node = refl
+children_stand_is cells x c node = refl
 
 pub children_counted : {A : Type 0} (x : Term-F A) → (form x == 16) ≡ false → length (children x) ≡ arity (form x)
-children_counted (Term-F.Num n) h = refl
-children_counted (Term-F.Truth b) h = refl
-children_counted Term-F.MinInt h = refl
-children_counted Term-F.MaxInt h = refl
-children_counted (Term-F.Var k) h = refl
-children_counted (Term-F.Add a b) h = refl
-children_counted (Term-F.Sub a b) h = refl
-children_counted (Term-F.Mul a b) h = refl
-children_counted (Term-F.Div a b) h = refl
-children_counted (Term-F.Mod a b) h = refl
-children_counted (Term-F.Len a) h = refl
-children_counted Term-F.Empty h = refl
-children_counted (Term-F.Single a) h = refl
-children_counted (Term-F.Cat a b) h = refl
-children_counted (Term-F.Reverse a) h = refl
-children_counted (Term-F.Part i j a) h = refl
 children_counted (Term-F.Tuple parts) h = cc
-children_counted (Term-F.Proj k a) h = refl
-children_counted (Term-F.Eq a b) h = refl
-children_counted (Term-F.Less a b) h = refl
-children_counted (Term-F.LessEq a b) h = refl
-children_counted (Term-F.Not a) h = refl
-children_counted (Term-F.And a b) h = refl
-children_counted (Term-F.Or a b) h = refl
-children_counted (Term-F.Implies a b) h = refl
-children_counted (Term-F.Initial k a) h = refl
+children_counted x h = refl
 
 pub nodes_step_is : (x : Term-F ℕ) → nodes_step x ≡ 1 + sum (children x)
 nodes_step_is (Term-F.Num n) = refl
@@ -215,32 +143,8 @@ truth_remade false = refl
 
 -- a node is told by its form, its own number and its children
 pub node_remade : {A : Type 0} (x : Term-F A) → remade (form x) (own x) (children x) ≡ Some x
-node_remade (Term-F.Num n) = refl
 node_remade (Term-F.Truth b) = truth_remade b
-node_remade Term-F.MinInt = refl
-node_remade Term-F.MaxInt = refl
-node_remade (Term-F.Var k) = refl
-node_remade (Term-F.Add a b) = refl
-node_remade (Term-F.Sub a b) = refl
-node_remade (Term-F.Mul a b) = refl
-node_remade (Term-F.Div a b) = refl
-node_remade (Term-F.Mod a b) = refl
-node_remade (Term-F.Len a) = refl
-node_remade Term-F.Empty = refl
-node_remade (Term-F.Single a) = refl
-node_remade (Term-F.Cat a b) = refl
-node_remade (Term-F.Reverse a) = refl
-node_remade (Term-F.Part i j a) = refl
-node_remade (Term-F.Tuple parts) = refl
-node_remade (Term-F.Proj k a) = refl
-node_remade (Term-F.Eq a b) = refl
-node_remade (Term-F.Less a b) = refl
-node_remade (Term-F.LessEq a b) = refl
-node_remade (Term-F.Not a) = refl
-node_remade (Term-F.And a b) = refl
-node_remade (Term-F.Or a b) = refl
-node_remade (Term-F.Implies a b) = refl
-node_remade (Term-F.Initial k a) = refl
+node_remade x = refl
 
 pub same_nodes : {A : Type 0} (x y : Term-F A) → form x ≡ form y → own x ≡ own y → children x ≡ children y → x ≡ y
 same_nodes x y e f g =

@@ -28,51 +28,18 @@ use Rattle.term_cells.proofs.Telling.{parts_of}
 
 number_step : (sorts : List Sort) (x : Term-F Sort) → is_number_form (form x) ≡ true → kind_step sorts x ≡ z
 number_step sorts (Term-F.Num n) h = refl
-number_step sorts (Term-F.Truth b) h = cc
 number_step sorts Term-F.MinInt h = refl
 number_step sorts Term-F.MaxInt h = refl
-number_step sorts (Term-F.Var k) h = cc
 number_step sorts (Term-F.Add a b) h = refl
 number_step sorts (Term-F.Sub a b) h = refl
 number_step sorts (Term-F.Mul a b) h = refl
 number_step sorts (Term-F.Div a b) h = refl
 number_step sorts (Term-F.Mod a b) h = refl
 number_step sorts (Term-F.Len a) h = refl
-number_step sorts Term-F.Empty h = cc
-number_step sorts (Term-F.Single a) h = cc
-number_step sorts (Term-F.Cat a b) h = cc
-number_step sorts (Term-F.Reverse a) h = cc
-number_step sorts (Term-F.Part i j a) h = cc
-number_step sorts (Term-F.Tuple parts) h = cc
-number_step sorts (Term-F.Proj k a) h = cc
-number_step sorts (Term-F.Eq a b) h = cc
-number_step sorts (Term-F.Less a b) h = cc
-number_step sorts (Term-F.LessEq a b) h = cc
-number_step sorts (Term-F.Not a) h = cc
-number_step sorts (Term-F.And a b) h = cc
-number_step sorts (Term-F.Or a b) h = cc
-number_step sorts (Term-F.Implies a b) h = cc
-number_step sorts (Term-F.Initial k a) h = cc
+number_step sorts x h = cc
 
 truth_step : (sorts : List Sort) (x : Term-F Sort) → is_truth_form (form x) ≡ true → kind_step sorts x ≡ b
-truth_step sorts (Term-F.Num n) h = cc
 truth_step sorts (Term-F.Truth b) h = refl
-truth_step sorts Term-F.MinInt h = cc
-truth_step sorts Term-F.MaxInt h = cc
-truth_step sorts (Term-F.Var k) h = cc
-truth_step sorts (Term-F.Add a b) h = cc
-truth_step sorts (Term-F.Sub a b) h = cc
-truth_step sorts (Term-F.Mul a b) h = cc
-truth_step sorts (Term-F.Div a b) h = cc
-truth_step sorts (Term-F.Mod a b) h = cc
-truth_step sorts (Term-F.Len a) h = cc
-truth_step sorts Term-F.Empty h = cc
-truth_step sorts (Term-F.Single a) h = cc
-truth_step sorts (Term-F.Cat a b) h = cc
-truth_step sorts (Term-F.Reverse a) h = cc
-truth_step sorts (Term-F.Part i j a) h = cc
-truth_step sorts (Term-F.Tuple parts) h = cc
-truth_step sorts (Term-F.Proj k a) h = cc
 truth_step sorts (Term-F.Eq a b) h = refl
 truth_step sorts (Term-F.Less a b) h = refl
 truth_step sorts (Term-F.LessEq a b) h = refl
@@ -81,20 +48,11 @@ truth_step sorts (Term-F.And a b) h = refl
 truth_step sorts (Term-F.Or a b) h = refl
 truth_step sorts (Term-F.Implies a b) h = refl
 truth_step sorts (Term-F.Initial k a) h = refl
+truth_step sorts x h = cc
 
 other_step : (sorts : List Sort) (x : Term-F Sort) → is_number_form (form x) ≡ false → is_truth_form (form x) ≡ false → (form x ≡ 16 → ⊥) → (form x ≡ 4 → ⊥) → (form x ≡ 17 → ⊥) →
     kind_step sorts x ≡ str any
-other_step sorts (Term-F.Num n) h i f g k' = cc
-other_step sorts (Term-F.Truth b) h i f g k' = cc
-other_step sorts Term-F.MinInt h i f g k' = cc
-other_step sorts Term-F.MaxInt h i f g k' = cc
 other_step sorts (Term-F.Var k) h i f g k' = absurd (g refl)
-other_step sorts (Term-F.Add a b) h i f g k' = cc
-other_step sorts (Term-F.Sub a b) h i f g k' = cc
-other_step sorts (Term-F.Mul a b) h i f g k' = cc
-other_step sorts (Term-F.Div a b) h i f g k' = cc
-other_step sorts (Term-F.Mod a b) h i f g k' = cc
-other_step sorts (Term-F.Len a) h i f g k' = cc
 other_step sorts Term-F.Empty h i f g k' = refl
 other_step sorts (Term-F.Single a) h i f g k' = refl
 other_step sorts (Term-F.Cat a b) h i f g k' = refl
@@ -102,14 +60,7 @@ other_step sorts (Term-F.Reverse a) h i f g k' = refl
 other_step sorts (Term-F.Part l j a) h i f g k' = refl
 other_step sorts (Term-F.Tuple parts) h i f g k' = absurd (f refl)
 other_step sorts (Term-F.Proj k a) h i f g k' = absurd (k' refl)
-other_step sorts (Term-F.Eq a b) h i f g k' = cc
-other_step sorts (Term-F.Less a b) h i f g k' = cc
-other_step sorts (Term-F.LessEq a b) h i f g k' = cc
-other_step sorts (Term-F.Not a) h i f g k' = cc
-other_step sorts (Term-F.And a b) h i f g k' = cc
-other_step sorts (Term-F.Or a b) h i f g k' = cc
-other_step sorts (Term-F.Implies a b) h i f g k' = cc
-other_step sorts (Term-F.Initial k a) h i f g k' = cc
+other_step sorts x h i f g k' = cc
 
 kind_out : (sorts : List Sort) (t : Term) → kind sorts t ≡ kind_step sorts (map-Term Term Sort (kind sorts) (out-Term t))
 kind_out sorts t = fold_out-Term Sort (kind_step sorts) t

@@ -9,8 +9,8 @@ use Rattle.math_terms.specs.declared.term.Term.TheViews.{out-Term}
 use Rattle.math_terms.specs.declared.term.Term.TheFolds.{map-Term, fold_out-Term}
 use Rattle.math_terms.specs.Heads.{children, form, own}
 use Rattle.num_theory.specs.Texts.{Piece, at_least, in_parentheses, listed, text, text_step}
-use Rattle.term_cells.specs.Marks.{strength}
-use Rattle.term_cells.specs.Pieces.{child_texts, inner_pieces, joined, list_pieces, node_pieces, nth, piece_of, term_pieces}
+use Rattle.term_cells.specs.working.Marks.{strength}
+use Rattle.term_cells.specs.working.Pieces.{child_texts, inner_pieces, joined, list_pieces, node_pieces, nth, piece_of, term_pieces}
 use Rattle.term_cells.proofs.Forms.{mapped_heads}
 
 -- a form that is strong enough for anything
@@ -19,31 +19,7 @@ any_strength p = ap (λ b. if b then p.1 else in_parentheses p.1) (le-leb 0 p.0 
 
 strength_step : (x : Term-F Piece) → (text_step x).0 ≡ strength (form x)
 strength_step (Term-F.Num n) = refl
-strength_step (Term-F.Truth b) = refl
-strength_step Term-F.MinInt = refl
-strength_step Term-F.MaxInt = refl
-strength_step (Term-F.Var k) = refl
-strength_step (Term-F.Add a b) = refl
-strength_step (Term-F.Sub a b) = refl
-strength_step (Term-F.Mul a b) = refl
-strength_step (Term-F.Div a b) = refl
-strength_step (Term-F.Mod a b) = refl
-strength_step (Term-F.Len a) = refl
-strength_step Term-F.Empty = refl
-strength_step (Term-F.Single a) = refl
-strength_step (Term-F.Cat a b) = refl
-strength_step (Term-F.Reverse a) = refl
-strength_step (Term-F.Part i j a) = refl
-strength_step (Term-F.Tuple parts) = refl
-strength_step (Term-F.Proj k a) = refl
-strength_step (Term-F.Eq a b) = refl
-strength_step (Term-F.Less a b) = refl
-strength_step (Term-F.LessEq a b) = refl
-strength_step (Term-F.Not a) = refl
-strength_step (Term-F.And a b) = refl
-strength_step (Term-F.Or a b) = refl
-strength_step (Term-F.Implies a b) = refl
-strength_step (Term-F.Initial k a) = refl
+strength_step x = refl
 
 pub strength_is : (t : Term) → (piece_of t).0 ≡ strength (form (out-Term t))
 strength_is t =

@@ -10,7 +10,7 @@ use Rattle.math_terms.specs.Heads.{form, children}
 use Rattle.math_terms.specs.Terms.{nodes}
 use Rattle.term_cells.specs.declared.cell.Cell.{Cell}
 use Rattle.term_cells.specs.Standing.{few_stand, parts_stand, quotient_stands, stands}
-use Rattle.term_cells.specs.Arity.{arity}
+use Rattle.term_cells.specs.working.Arity.{arity}
 use Rattle.term_cells.specs.Growing.{Store, Pushes, Grows, HasHead, StandsAs, StandsThere, NodeLoads, PartsLoad, has_end}
 use Rattle.term_cells.proofs.Apart.{end_parts, end_from, link_parts, link_from, there, there_from, quotient_from}
 use Rattle.term_cells.proofs.Forms.{form_stands, children_counted, remade, node_remade}

@@ -10,9 +10,9 @@ use Rattle.num_theory.specs.Texts.{Piece, at_least, listed}
 use Rattle.term_cells.specs.declared.cell.Cell.{Cell}
 use Rattle.term_cells.specs.declared.before.Next.{Next}
 use Rattle.term_cells.specs.declared.before.Next.TheVariants.{Mark, Number, Child, Done}
-use Rattle.term_cells.specs.Arity.{arity}
-use Rattle.term_cells.specs.Marks.{left_least, right_least, strength, symbol}
-use Rattle.term_cells.specs.Pieces.{HasPieces, NextIs, Says, child_count, child_texts, comma_before, joined, list_pieces, node_pieces, nth, operands, piece_of, term_pieces}
+use Rattle.term_cells.specs.working.Arity.{arity}
+use Rattle.term_cells.specs.working.Marks.{left_least, right_least, strength, symbol}
+use Rattle.term_cells.specs.working.Pieces.{HasPieces, NextIs, Says, child_count, child_texts, comma_before, joined, list_pieces, node_pieces, nth, operands, piece_of, term_pieces}
 use Rattle.term_cells.specs.Standing.{few_stand, parts_stand, stands, stands_below}
 use Rattle.term_cells.proofs.Apart.{below_parts}
 use Rattle.term_cells.proofs.Comparing.{end_cell, first_below, link_cell, parts_below, parts_inside, second_below, third_below}
@@ -23,31 +23,7 @@ use Rattle.term_cells.proofs.Telling.{few_of, parts_of}
 
 small_form : {A : Type 0} (x : Term-F A) → ltb (form x) 26 ≡ true
 small_form (Term-F.Num n) = refl
-small_form (Term-F.Truth b) = refl
-small_form Term-F.MinInt = refl
-small_form Term-F.MaxInt = refl
-small_form (Term-F.Var k) = refl
-small_form (Term-F.Add a b) = refl
-small_form (Term-F.Sub a b) = refl
-small_form (Term-F.Mul a b) = refl
-small_form (Term-F.Div a b) = refl
-small_form (Term-F.Mod a b) = refl
-small_form (Term-F.Len a) = refl
-small_form Term-F.Empty = refl
-small_form (Term-F.Single a) = refl
-small_form (Term-F.Cat a b) = refl
-small_form (Term-F.Reverse a) = refl
-small_form (Term-F.Part i j a) = refl
-small_form (Term-F.Tuple parts) = refl
-small_form (Term-F.Proj k a) = refl
-small_form (Term-F.Eq a b) = refl
-small_form (Term-F.Less a b) = refl
-small_form (Term-F.LessEq a b) = refl
-small_form (Term-F.Not a) = refl
-small_form (Term-F.And a b) = refl
-small_form (Term-F.Or a b) = refl
-small_form (Term-F.Implies a b) = refl
-small_form (Term-F.Initial k a) = refl
+small_form x = refl
 
 -- the form of the cell where a term stands
 pub term_form : (cells : List Cell) (t : Term) (p : ℕ) (c : Cell) → slice_get cells p ≡ Some c → stands cells t p ≡ true → c.form < 26

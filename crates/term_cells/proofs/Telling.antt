@@ -6,7 +6,7 @@ use Rattle.math_terms.specs.declared.term.Term.TheViews.{out-Term}
 use Rattle.math_terms.specs.Heads.{form, children}
 use Rattle.term_cells.specs.declared.cell.Cell.{Cell}
 use Rattle.term_cells.specs.Standing.{parts_stand, few_stand, quotient_stands, stands, stands_below}
-use Rattle.term_cells.specs.Arity.{arity}
+use Rattle.term_cells.specs.working.Arity.{arity}
 use Rattle.term_cells.proofs.Apart.{below_parts, end_parts, link_parts}
 use Rattle.term_cells.proofs.Forms.{form_stands, children_counted, same_terms}
 use Rattle.term_cells.proofs.Openings.{opens, cell_of}

@@ -1,11 +1,7 @@
 pub mod Standing
-pub mod Listed
-pub mod Arity
+pub mod Placed
 pub mod Laws
 pub mod Growing
-pub mod Counting
 pub mod KindShown
 pub mod Pending
-pub mod Marks
-pub mod Pieces
-pub mod Reading
+pub mod working

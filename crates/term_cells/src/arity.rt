@@ -1,7 +1,7 @@
 //! How many children the nodes of a form have.
 
 ghost use Rattle.std.specs.Prelude.{◌≡◌};
-ghost use Rattle.term_cells.specs.Arity.{arity};
+ghost use Rattle.term_cells.specs.working.Arity.{arity};
 
 /// The number of children of a node of this form, 0 for a tuple, whose parts are in a list.
 pub(crate) fn arity_of(form: u8) -> u8

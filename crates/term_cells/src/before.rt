@@ -6,9 +6,9 @@ ghost use Rattle.math_terms.specs.declared.term.Term.{Term};
 ghost use Rattle.num_theory.specs.Linear.{text_before};
 ghost use Rattle.num_theory.specs.Texts.{text};
 ghost use Rattle.term_cells.specs.declared.cell.Cell.{Cell};
-ghost use Rattle.term_cells.specs.Marks as marks;
-ghost use Rattle.term_cells.specs.Pieces.{HasPieces, IsWithin, NextIs, Says, child_count, comma_before, list_pieces, term_pieces};
-ghost use Rattle.term_cells.specs.Reading.{Reads, weight};
+ghost use Rattle.term_cells.specs.working.Marks as marks;
+ghost use Rattle.term_cells.specs.working.Pieces.{HasPieces, IsWithin, NextIs, Says, child_count, comma_before, list_pieces, term_pieces};
+ghost use Rattle.term_cells.specs.working.Reading.{Reads, weight};
 ghost use Rattle.term_cells.specs.Standing.{parts_stand, stands};
 
 use crate::arity::arity_of;

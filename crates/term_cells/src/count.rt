@@ -3,7 +3,7 @@
 ghost use Rattle.std.specs.Prelude.{◌≡◌, ◌+◌, ◌-◌, ◌^◌, ◌<◌, ℕ, List, true, length, map, min, sum_by};
 ghost use Rattle.math_terms.specs.declared.term.Term.{Term};
 ghost use Rattle.math_terms.specs.Terms.{nodes};
-ghost use Rattle.term_cells.specs.Counting.{Leaves};
+ghost use Rattle.term_cells.specs.working.Counting.{Leaves};
 ghost use Rattle.term_cells.specs.Standing.{few_stand, parts_stand, stands, stands_below};
 
 use crate::arity::arity_of;

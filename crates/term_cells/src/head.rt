@@ -3,7 +3,7 @@
 ghost use Rattle.std.specs.Prelude.{◌≡◌, ◌==◌, pos, true, false, [], ◌∷◌};
 ghost use Rattle.math_terms.specs.declared.term.Term.TheViews.{out-Term};
 ghost use Rattle.math_terms.specs.Heads.{form, own, children};
-ghost use Rattle.term_cells.specs.Listed.{listed, is_parts};
+ghost use Rattle.term_cells.specs.working.Listed.{listed, is_parts};
 
 use math_terms::Term;
 

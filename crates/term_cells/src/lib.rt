@@ -14,8 +14,6 @@ mod making;
 mod marks;
 mod reading;
 mod same;
-#[cfg(test)]
-mod tests;
 
 pub use before::Scratch;
 pub use cell::Cell;

@@ -1,7 +1,7 @@
 //! What stands around and between the children in the text of a node, form by form.
 
 ghost use Rattle.std.specs.Prelude.{◌≡◌, ◌≤◌, length};
-ghost use Rattle.term_cells.specs.Marks as spec;
+ghost use Rattle.term_cells.specs.working.Marks as spec;
 
 /// How strongly a form holds its parts together.
 pub(crate) fn strength(form: u8) -> u8

@@ -1,7 +1,8 @@
 use Rattle.std.proofs.Common.{◌∙◌, sym, ap, length, pos}
 use Rattle.std.proofs.lemmas.Bool.{eqb-true}
 use Rattle.std.proofs.lemmas.List.{nil_from_length}
-use Rattle.cell_rows.specs.Columns.{has_product}
+use Rattle.cell_rows.specs.working.Columns.{has_product}
+use Rattle.num_theory.specs.declared.number.Number.TheVariants.{Exact}
 use Rattle.cell_rows.proofs.Flags.{is_first, is_later}
 use Rattle.cell_rows.proofs.Ordering.{some_from}
 use Rattle.cell_rows.proofs.Places.{first_product, no_products}
@@ -13,10 +14,10 @@ returns-then-is_empty m c = λ t ps h s.
 
 pub returns-then-same : goal.returns-then-same
 returns-then-same m c = λ t ps h s.
-    let f = first_product c.args.cells.now.0 ps c.args.marks.now (pos 0, 0) (some_from (length c.args.marks.now) (sym c.is_empty.ensures ∙ c.if-is_empty.false)) s in
-    is_first c.args.cells.now.0 t ps c.args.marks.now (pos 0, 0) f c.same.result (c.same.ensures t f.first.1 h f.first_stands) c.if-same.true
+    let f = first_product c.args.cells.now.0 ps c.args.marks.now (Exact (pos 0), 0) (some_from (length c.args.marks.now) (sym c.is_empty.ensures ∙ c.if-is_empty.false)) s in
+    is_first c.args.cells.now.0 t ps c.args.marks.now (Exact (pos 0), 0) f c.same.result (c.same.ensures t f.first.1 h f.first_stands) c.if-same.true
 
 pub returns : goal.returns
 returns m c = λ t ps h s.
-    let f = first_product c.args.cells.now.0 ps c.args.marks.now (pos 0, 0) (some_from (length c.args.marks.now) (sym c.is_empty.ensures ∙ c.if-is_empty.false)) s in
-    is_later c.args.cells.now.0 t ps c.args.marks.now (pos 0, 0) f c.same.result (c.same.ensures t f.first.1 h f.first_stands) c.if-same.false c.has_mark.result (c.has_mark.ensures t f.rest h f.rest_stands)
+    let f = first_product c.args.cells.now.0 ps c.args.marks.now (Exact (pos 0), 0) (some_from (length c.args.marks.now) (sym c.is_empty.ensures ∙ c.if-is_empty.false)) s in
+    is_later c.args.cells.now.0 t ps c.args.marks.now (Exact (pos 0), 0) f c.same.result (c.same.ensures t f.first.1 h f.first_stands) c.if-same.false c.has_mark.result (c.has_mark.ensures t f.rest h f.rest_stands)

@@ -1,7 +1,7 @@
 use Rattle.std.proofs.Common.{◌≡◌, ◌∙◌, List, Bool, true, false, sym, subst, length, get_or}
 use Rattle.std.proofs.lemmas.Bool.{eqb-true}
 use Rattle.std.proofs.lemmas.List.{nil_from_length, take_rest}
-use Rattle.cell_rows.specs.AtomsStand.{AtomsOrShort}
+use Rattle.cell_rows.specs.working.Atoms.{AtomsOrShort}
 use Rattle.cell_rows.proofs.Flags.{first_mapped, left_out, no_column, one_column, rest_mapped, short_columns}
 use Rattle.cell_rows.proofs.Ordering.{some_from}
 use Rattle.cell_rows.proofs.Places.{first_atom}

@@ -1,6 +1,6 @@
 use Rattle.std.proofs.Common.{◌≡◌, ◌∙◌, ◌||◌, ◌∷◌, ◌<◌, List, Bool, false, sym, ap, length, map, arith}
 use Rattle.math_terms.specs.declared.term.Term.{Term}
-use Rattle.cell_rows.specs.Columns.{has_product}
+use Rattle.cell_rows.specs.working.Columns.{has_product}
 use Rattle.cell_rows.proofs.Flags.{first_mapped, one_then, rest_mapped, rest_set}
 use Rattle.cell_rows.proofs.Ordering.{some_from}
 use Rattle.cell_rows.proofs.Places.{first_atom}

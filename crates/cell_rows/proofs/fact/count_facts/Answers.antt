@@ -6,7 +6,7 @@ use Rattle.math_terms.specs.declared.term.Term.TheViews.{out-Term}
 use Rattle.term_cells.specs.Standing.{stands}
 use Rattle.term_cells.proofs.Apart.{below_parts}
 use Rattle.term_cells.proofs.Openings.{not_there}
-use Rattle.cell_rows.specs.Facts.{literal_of}
+use Rattle.cell_rows.specs.working.Facts.{literal_of}
 use Rattle.cell_rows.proofs.Quotients.{div_facts, facts_high, facts_low, high_from, low_from, its_quotient, len_facts, no_facts}
 use Rattle.cell_rows.proofs.fact.count_facts.Goals as goal
 

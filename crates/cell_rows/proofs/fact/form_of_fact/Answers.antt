@@ -4,7 +4,7 @@ use Rattle.std.proofs.lemmas.Int.{to_z-of_z}
 use Rattle.math_terms.specs.Terms.{nodes}
 use Rattle.num_theory.specs.Table.{less_eq, num}
 use Rattle.term_cells.proofs.Openings.{not_there}
-use Rattle.cell_rows.specs.Facts.{lower_form, upper_form}
+use Rattle.cell_rows.specs.working.Facts.{lower_form, upper_form}
 use Rattle.cell_rows.specs.Forms.{FormOrShort}
 use Rattle.cell_rows.specs.RowsStand.{fact_form}
 use Rattle.cell_rows.proofs.Nodes.{some_nodes, widened}

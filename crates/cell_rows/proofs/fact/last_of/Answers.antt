@@ -1,7 +1,7 @@
 use Rattle.std.proofs.Common.{List, drop, pos, SFits, w64}
 use Rattle.std.proofs.lemmas.Int.{to_z-of_z}
 use Rattle.num_theory.specs.Linear.{constant_form, plus}
-use Rattle.cell_rows.specs.Facts.{multiple_form}
+use Rattle.cell_rows.specs.working.Facts.{multiple_form}
 use Rattle.cell_rows.specs.Forms.{FormStands, Mark}
 use Rattle.cell_rows.proofs.fact.last_of.Goals as goal
 

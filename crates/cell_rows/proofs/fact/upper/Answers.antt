@@ -2,7 +2,7 @@ use Rattle.std.proofs.Common.{◌-◌, ◌++◌, List, length, take, drop, SFits
 use Rattle.std.proofs.lemmas.Int.{to_z-of_z}
 use Rattle.math_terms.specs.Terms.{nodes}
 use Rattle.num_theory.specs.Linear.{formed}
-use Rattle.cell_rows.specs.Facts.{last_form}
+use Rattle.cell_rows.specs.working.Facts.{last_form}
 use Rattle.cell_rows.specs.Forms.{FormStands, Mark}
 use Rattle.cell_rows.proofs.Nodes.{behind, kept, low_part}
 use Rattle.cell_rows.proofs.fact.upper.Goals as goal

@@ -1,10 +1,9 @@
-use Rattle.std.proofs.Common.{◌≡◌, ◌∙◌, ◌-◌, ◌<◌, ◌∷◌, ◌++◌, [], ℤ, List, sym, ap, refl, length, map, true, SFits, w64, rules, arith}
+use Rattle.std.proofs.Common.{◌≡◌, ◌∙◌, ◌-◌, ◌<◌, ◌∷◌, ◌++◌, [], ℤ, List, sym, ap, refl, length, map, arith}
 use Rattle.std.proofs.lemmas.Bool.{eqb-true}
-use Rattle.std.proofs.lemmas.Int.{to_z-of_z}
 use Rattle.std.proofs.lemmas.List.{nil_from_length}
 use borrow.Rule.Slice.PartMut.{put_mid}
 use Rattle.math_terms.specs.declared.term.Term.{Term}
-use Rattle.num_theory.specs.Lines.{narrow}
+use Rattle.num_theory.specs.Number.{exact, is_narrow}
 use Rattle.num_theory.specs.Table.{coefficient}
 use Rattle.cell_rows.proofs.Flags.{one_then}
 use Rattle.cell_rows.proofs.Matrix.{narrow_coefficient, one_number}
@@ -16,33 +15,27 @@ pub returns-then-is_empty-clause-written : goal.returns-then-is_empty-clause-wri
 returns-then-is_empty-clause-written m c = λ cols ps h s e.
     let none : c.args.columns.now ≡ [] = nil_from_length c.args.columns.now (eqb-true (length c.args.columns.now) 0 (sym c.is_empty.ensures ∙ c.if-is_empty.true)) in
     let one : length c.args.out.now ≡ 1 = omega (arith, c.requires, ap length none) in
-    let fits : SFits w64 c.args.constant = search rules in
-    (simp to_z-of_z at (c.write_first.ensures.written e)) ∙ one_number c.args.out.now c.args.constant one
-    ∙ sym (ap (λ (ts : List Term). map (λ t. coefficient t ps) ts ++ c.args.constant ∷ []) (no_atoms c.args.cells.now.0 cols c.args.columns.now none h))
+    c.write_first.ensures.written e ∙ one_number c.args.out.now (exact c.args.constant) one
+    ∙ sym (ap (λ (ts : List Term). map (λ t. coefficient t ps) ts ++ exact c.args.constant ∷ []) (no_atoms c.args.cells.now.0 cols c.args.columns.now none h))
 
 pub returns-then-not-write_first-clause-writes : goal.returns-then-not-write_first-clause-writes
 returns-then-not-write_first-clause-writes m c = λ cols ps h s n k.
     let f = first_atom c.args.cells.now.0 cols c.args.columns.now 0 (some_from (length c.args.columns.now) (sym c.is_empty.ensures ∙ c.if-is_empty.false)) h in
     let room : 0 < length c.args.out.now = omega (arith, c.requires) in
-    let fits : SFits w64 c.coefficient.result = search rules in
-    let small : narrow c.coefficient.result ≡ true = ap narrow (c.coefficient.ensures f.first ps f.first_stands s) ∙ narrow_coefficient f.first ps n in
-    c.if-not-write_first.ensures.writes room (simp to_z-of_z small)
+    c.if-not-write_first.ensures.writes room (ap is_narrow (c.coefficient.ensures f.first ps f.first_stands s) ∙ narrow_coefficient f.first ps n)
 
 pub returns-clause-writes : goal.returns-clause-writes
 returns-clause-writes m c = λ cols ps h s n k.
     let f = first_atom c.args.cells.now.0 cols c.args.columns.now 0 (some_from (length c.args.columns.now) (sym c.is_empty.ensures ∙ c.if-is_empty.false)) h in
-    let fits : SFits w64 c.args.constant = search rules in
-    c.write_row.ensures.writes f.rest ps f.rest_stands s n (simp to_z-of_z k)
+    c.write_row.ensures.writes f.rest ps f.rest_stands s n k
 
 pub returns-clause-written : goal.returns-clause-written
 returns-clause-written m c = λ cols ps h s e.
     let f = first_atom c.args.cells.now.0 cols c.args.columns.now 0 (some_from (length c.args.columns.now) (sym c.is_empty.ensures ∙ c.if-is_empty.false)) h in
     let room : 0 < length c.args.out.now = omega (arith, c.requires) in
-    let number = c.coefficient.result in
-    let constant : SFits w64 c.args.constant = search rules in
-    let fits : SFits w64 number = search rules in
-    let first = simp to_z-of_z at (c.if-not-write_first.ensures.written refl) in
-    let rest = simp to_z-of_z at (c.write_row.ensures.written f.rest ps f.rest_stands s e) in
+    let number = exact c.coefficient.result in
+    let first = c.if-not-write_first.ensures.written refl in
+    let rest = c.write_row.ensures.written f.rest ps f.rest_stands s e in
     ap (λ (w : List ℤ). put_mid 1 (length w - 1) w c.write_row.new.out) first ∙ one_then c.args.out.now number c.write_row.new.out room
-    ∙ (λ i. c.coefficient.ensures f.first ps f.first_stands s i ∷ rest i)
-    ∙ sym (ap (λ (ts : List Term). map (λ t. coefficient t ps) ts ++ c.args.constant ∷ []) f.same)
+    ∙ (λ i. exact (c.coefficient.ensures f.first ps f.first_stands s i) ∷ rest i)
+    ∙ sym (ap (λ (ts : List Term). map (λ t. coefficient t ps) ts ++ exact c.args.constant ∷ []) f.same)

@@ -1,11 +1,12 @@
-use Rattle.std.proofs.Common.{pos, false, ◌≤ℤ◌, ◌<ℤ◌, ◌==◌, ◌≡◌, Some, ◌∙◌, List, ◌≤◌, length, sym, ap, refl, subst, ◌+◌, ◌-◌, drop, SFits, w64, rules, negsuc, true, take, ◌++◌, arith}
+use Rattle.std.proofs.Common.{pos, false, ◌≤ℤ◌, ◌<ℤ◌, ◌==◌, ◌≡◌, Some, ◌∙◌, List, ◌≤◌, length, sym, ap, refl, subst, ◌+◌, ◌-◌, drop, SFits, w64, rules, true, take, ◌++◌, arith}
 use Rattle.std.proofs.lemmas.Bool.{ne_eqb}
 use Rattle.std.proofs.lemmas.Int.{to_z-of_z}
 use Rattle.math_terms.specs.declared.term.Term.TheOpen.{Term-F}
 use Rattle.math_terms.specs.declared.term.Term.TheViews.{roll-Term}
 use Rattle.math_terms.specs.Terms.{nodes}
 use lib.Signed.{le_z}
-use Rattle.num_theory.specs.Linear.{Form, atom_form, constant_form, formed, plus, times, product_form, remainder_form, is_constant, is_zero, multiple}
+use Rattle.num_theory.specs.Linear.{Form, atom_form, constant_form, formed, plus, times, product_form, remainder_form, is_constant, minus_one, multiple}
+use Rattle.num_theory.specs.Number.{is_zero}
 use Rattle.num_theory.proofs.Forming.{form_at, product_atom}
 use Rattle.term_cells.specs.Standing.{stands}
 use Rattle.std.specs.List.{list_all}
@@ -76,7 +77,7 @@ pub form-returns-then-cell-eq-SUB-clause-form : goal.form-returns-then-cell-eq-S
 form-returns-then-cell-eq-SUB-clause-form m c = λ t h.
     let cells = c.args.cells.now.0 in
     let s = two_at Term-F.Sub 6 (λ a b. record { form_is = refl; own_is = refl; children_are = refl }) refl cells t c.args.p c.in_ok-cell.cell (sym c.in_ok-cell.ensures) c.if-cell-eq-SUB.true h in
-    widened cells (plus (formed s.left).1 (times (negsuc 0) (formed s.right).1)) (formed t).1 (nodes s.left + nodes s.right) (nodes t) c.difference_form.result c.difference_form.new.marks
+    widened cells (plus (formed s.left).1 (times (minus_one) (formed s.right).1)) (formed t).1 (nodes s.left + nodes s.right) (nodes t) c.difference_form.result c.difference_form.new.marks
     (sym (form_at (Term-F.Sub s.left s.right) t s.term_is)) (omega (arith, s.nodes_are)) (c.difference_form.ensures.form s.left s.right s.left_is s.right_is)
 
 pub difference_form-returns-clause-form : goal.difference_form-returns-clause-form
@@ -91,9 +92,9 @@ difference_form-returns-clause-form m c = λ t u h k.
     let last : List Mark = drop (length both - n) (drop n both) in
     let room : n ≤ length both = wide_part n first (second ++ rest) c.in_ok-f.ensures.fits in
     let fits : c.times-negated.result.count ≤ length third = omega (arith, c.times-negated.ensures.count, c.in_ok-g.ensures.fits, c.times-negated.auto.marks, ap length (all_taken n both), behind_counted n first second rest c.in_ok-f.ensures.fits) in
-    c.plus.ensures.form (formed t).1 (times (negsuc 0) (formed u).1) (nodes t) (nodes u)
+    c.plus.ensures.form (formed t).1 (times (minus_one) (formed u).1) (nodes t) (nodes u)
     (kept cells (formed t).1 (nodes t) c.in_ok-f.f first (take n both ++ (third ++ last)) (low_part n both (third ++ last) room ∙ low_part n first (second ++ rest) c.in_ok-f.ensures.fits) (c.in_ok-f.ensures.form t h))
-    (behind cells (times (negsuc 0) (formed u).1) (nodes u) c.times-negated.result n both third last room fits
+    (behind cells (times (minus_one) (formed u).1) (nodes u) c.times-negated.result n both third last room fits
     (c.times-negated.ensures.form cells (formed u).1 (nodes u) (subst (FormStands cells (formed u).1 (nodes u) c.in_ok-g.g) (sym (all_taken n both)) (behind cells (formed u).1 (nodes u) c.in_ok-g.g n first second rest c.in_ok-f.ensures.fits c.in_ok-g.ensures.fits (c.in_ok-g.ensures.form u k)))))
 
 pub product_form-returns-then-are_zero-clause-form : goal.product_form-returns-then-are_zero-clause-form
@@ -189,7 +190,7 @@ remainder_form-returns-clause-form m c = λ t u node quotient h k.
     let rest : List Mark = drop (length first - n) (drop n first) in
     let test : le_z d.own (pos 0) ≡ false = simp to_z-of_z at c.if-divisor-le0.false in
     let high : pos 0 <ℤ d.own = above_zero d.own test in
-    let rounded : Form = multiple (times (negsuc 0) (constant_form d.own)) (atom_form (roll-Term (Term-F.Div t u))) in
+    let rounded : Form = multiple (times (minus_one) (constant_form d.own)) (atom_form (roll-Term (Term-F.Div t u))) in
     let second_stands : FormStands cells rounded 1 c.in_ok-g.g second = simp to_z-of_z at (c.in_ok-g.ensures.form cells (roll-Term (Term-F.Div t u)) quotient) in
     widened cells (plus (formed t).1 rounded) (remainder_form (formed t) (formed u)) (nodes t + 1) (1 + nodes t + nodes u) (Some c.plus.result) c.plus.new.marks
     (sym (remainder_by_high t u d.own number high)) (omega arith)

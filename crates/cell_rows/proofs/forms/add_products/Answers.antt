@@ -1,15 +1,12 @@
-use Rattle.std.proofs.Common.{pos, drop, get_or, ◌+◌, SFits, w64, rules}
-use Rattle.std.proofs.lemmas.Int.{to_z-of_z}
-use Rattle.cell_rows.specs.Forms.{Mark}
+use Rattle.std.proofs.Common.{pos, drop}
+use Rattle.num_theory.specs.declared.number.Number.TheVariants.{Exact}
 use Rattle.cell_rows.proofs.Merging.{merges_more, merged}
 use Rattle.cell_rows.proofs.forms.add_products.Goals as goal
 
 pub loop-k-preserved : goal.loop-k-preserved
 loop-k-preserved c =
-    let read : Mark = get_or c.loop-k.marks (c.args.count + c.loop-k.k) (pos 0, 0) in
-    let fits : SFits w64 read.0 = search rules in
     merges_more c.args.cells.now.0 c.args.count c.args.more c.args.marks.now c.requires c.loop-k.k c.loop-k.total c.loop-k-test.true c.loop-k.marks c.loop-k.invariant
-    c.add_product-total.result c.add_product-total.new.marks (pos 0, 0) c.add_product-total.ensures.few c.add_product-total.ensures.rest (λ t ps s h. simp to_z-of_z at (c.add_product-total.ensures.added t ps s h))
+    c.add_product-total.result c.add_product-total.new.marks (Exact (pos 0), 0) c.add_product-total.ensures.few c.add_product-total.ensures.rest c.add_product-total.ensures.added
 
 pub returns-clause-added : goal.returns-clause-added
 returns-clause-added c = λ ps qs h g.

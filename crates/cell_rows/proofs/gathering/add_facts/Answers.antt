@@ -1,6 +1,6 @@
 use Rattle.std.proofs.Common.{◌<◌, length, arith}
 use Rattle.num_theory.specs.Table.{facts_of}
-use Rattle.cell_rows.specs.AtomsStand.{with_row}
+use Rattle.cell_rows.specs.working.Atoms.{with_row}
 use Rattle.cell_rows.specs.RowsStand.{fact_row}
 use Rattle.cell_rows.proofs.Bounded.{fact_within}
 use Rattle.cell_rows.proofs.Crowded.{tame_row}
@@ -23,5 +23,5 @@ returns-clause-short c = λ t ts size h s tame few room.
     let second = is_got (facts_of t) 1 two in
     let standing = c.in_ok-count.ensures.added t first.0 ts h first.1 s in
     let tame_first = tame_row size ts (fact_row first.0) (fact_within size t 0 first.0 few first.1) tame in
-    as_short c.add_fact-2.result (length c.add_fact.new.marks) (length c.args.marks.now) size (omega arith)
+    as_short c.add_fact-2.result (length c.add_fact.new.sheet.marks.items) (length c.args.sheet.now.marks.items) size c.in_ok-count.ensures.room.1
     (c.add_fact-2.ensures.short t second.0 (with_row ts (fact_row first.0)) size h second.1 standing tame_first few (omega arith))

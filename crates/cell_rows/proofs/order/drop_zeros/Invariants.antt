@@ -1,6 +1,6 @@
 use Rattle.std.proofs.Common.{not}
 use Rattle.std.proofs.lemmas.List.Filters.{FiltersInPlace}
-use Rattle.num_theory.specs.Linear.{is_zero}
+use Rattle.num_theory.specs.Number.{is_zero}
 use Rattle.cell_rows.proofs.order.drop_zeros.Given as goal
 
 abbrev pub invariant-loop-k : goal.invariant-loop-k

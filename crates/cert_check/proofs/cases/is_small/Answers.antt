@@ -1,6 +1,6 @@
 use Rattle.std.proofs.Common.{◌∙◌, subst}
 use Rattle.cert_check.specs.declared.cases.Part.{Part}
-use Rattle.cert_check.specs.Cases.{PartIs}
+use Rattle.cert_check.specs.working.Cases.{PartIs}
 use Rattle.cert_check.proofs.Sizes.{small_told, truth_small, not_small, over_small, negations_small, and_not_small}
 use Rattle.cert_check.proofs.cases.is_small.Goals as goal
 

@@ -1,6 +1,6 @@
 use Rattle.std.proofs.Common.{subst}
 use Rattle.cert_check.specs.declared.cases.Part.{Part}
-use Rattle.cert_check.specs.Cases.{PartIs}
+use Rattle.cert_check.specs.working.Cases.{PartIs}
 use Rattle.cert_check.proofs.Made.{two_made}
 use Rattle.cert_check.proofs.cases.make.Goals as goal
 

@@ -2,7 +2,7 @@ use Rattle.std.proofs.Common.{◌<◌, ap, length, List, arith}
 use Rattle.std.proofs.lemmas.Bool.Decides.{nat_tests}
 use Rattle.cert_form.specs.declared.cert.Step.{Step}
 use Rattle.cert_check.specs.Need.{need_of}
-use Rattle.cert_check.specs.Room.{HasRoom}
+use Rattle.cert_check.specs.working.Room.{HasRoom}
 use Rattle.cert_check.proofs.Showing.{legal_shown}
 use Rattle.cert_check.proofs.desk.check.Goals as goal
 

@@ -1,6 +1,6 @@
 use Rattle.std.proofs.Common.{◌≡◌, ◌∙◌, ◌<◌, ap, [], ◌∷◌, false, length, arith}
 use Rattle.term_cells.proofs.Falling.{first_frame, starts_reading}
-use Rattle.term_cells.specs.Reading.{State}
+use Rattle.term_cells.specs.working.Reading.{State}
 use Rattle.term_cells.proofs.before.start.Goals as goal
 
 pub returns-clause-reads : goal.returns-clause-reads

@@ -6,9 +6,9 @@ use Rattle.cert_form.specs.declared.cert.Step.TheVariants.{Split}
 use Rattle.cert_check.specs.declared.cases.Cases.{Cases}
 use Rattle.cert_check.specs.declared.path.Path.{Path}
 use Rattle.cert_check.specs.declared.walk.Stop.{Stop}
-use Rattle.cert_check.specs.Children.{SplitIs}
+use Rattle.cert_check.specs.working.Children.{SplitIs}
 use Rattle.cert_check.specs.Need.{sequent_nodes}
-use Rattle.cert_check.specs.Room.{Holds, Needs}
+use Rattle.cert_check.specs.working.Room.{Holds, Needs}
 use Rattle.cert_check.proofs.Needing.{needs_first, needs_one, needs_room, needs_two}
 use Rattle.cert_check.proofs.Walks.{walked_refused, walked_one, walked_first, walked_two, stands_again, child_again, child_stands, child_vars}
 use Rattle.cert_check.proofs.path.Path.+walk.Goals as goal

@@ -1,5 +1,5 @@
 use Rattle.std.proofs.Common.{ℕ, List, subst, sym}
-use Rattle.cert_check.specs.Path.{StandsIn}
+use Rattle.cert_check.specs.working.Path.{StandsIn}
 use Rattle.cert_check.proofs.Walks.{hyp_gives}
 use Rattle.cert_check.proofs.path.Path.allows.Goals as goal
 

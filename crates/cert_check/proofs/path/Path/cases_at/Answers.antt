@@ -1,5 +1,5 @@
 use Rattle.std.proofs.Common.{◌≡◌, ◌∙◌, sym, ap, drop, Some, None, ℕ, List}
-use Rattle.cert_check.specs.Path.{named}
+use Rattle.cert_check.specs.working.Path.{named}
 use Rattle.cert_check.proofs.Naming.{goal_named, none_named, hypothesis_named}
 use Rattle.cert_check.proofs.path.Path.cases_at.Goals as goal
 

@@ -1,8 +1,8 @@
 use Rattle.std.proofs.Common.{◌≡◌, take, Some}
 use Rattle.std.specs.List.{sum_by}
 use Rattle.math_terms.specs.Terms.{nodes}
-use Rattle.cert_check.specs.Path.{Adds}
-use Rattle.cert_check.specs.Room.{Takes}
+use Rattle.cert_check.specs.working.Path.{Adds}
+use Rattle.cert_check.specs.working.Room.{Takes}
 use Rattle.cert_check.proofs.path.Path.load_all.Given as goal
 
 -- the formulas so far stand, and what they take is held

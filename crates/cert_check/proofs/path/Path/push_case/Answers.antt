@@ -2,7 +2,7 @@ use Rattle.std.proofs.Common.{◌+◌, subst, arith}
 use Rattle.std.specs.List.{sum_by}
 use Rattle.math_terms.specs.Terms.{nodes}
 use Rattle.cert_check.specs.declared.cases.Case.{Case}
-use Rattle.cert_check.specs.Cases.{FormulasAre}
+use Rattle.cert_check.specs.working.Cases.{FormulasAre}
 use Rattle.cert_check.proofs.Counts.{one_total, two_total}
 use Rattle.cert_check.proofs.Filling.{lacks_less, takes_as, takes_none, takes_then}
 use Rattle.cert_check.proofs.Opening.{grown_part, second_added}

@@ -2,7 +2,7 @@ use Rattle.std.proofs.Common.{◌+◌, refl, subst, arith}
 use Rattle.std.specs.List.{sum_by}
 use Rattle.math_terms.specs.Terms.{nodes}
 use Rattle.cert_check.specs.declared.cases.Case.{Case}
-use Rattle.cert_check.specs.Cases.{GoalIs}
+use Rattle.cert_check.specs.working.Cases.{GoalIs}
 use Rattle.cert_check.specs.declared.path.Path.{Path}
 use Rattle.cert_check.proofs.Counts.{goal_total, only_total}
 use Rattle.cert_check.proofs.Filling.{lacks_less, takes_as, takes_cells, takes_none, takes_then}

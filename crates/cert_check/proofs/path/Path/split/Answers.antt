@@ -1,6 +1,6 @@
 use Rattle.std.proofs.Common.{◌∙◌, sym, subst, None, Option}
 use Rattle.cert_check.specs.declared.cases.Cases.{Cases}
-use Rattle.cert_check.specs.Children.{SplitIs}
+use Rattle.cert_check.specs.working.Children.{SplitIs}
 use Rattle.cert_check.proofs.Giving.{split_allowed, split_large, split_none, split_others}
 use Rattle.cert_check.proofs.path.Path.split.Goals as goal
 

@@ -2,7 +2,7 @@ use Rattle.std.proofs.Common.{◌+◌, ◌*◌, ◌≡◌, ◌==◌, ◌∙◌, 
 use Rattle.std.proofs.lemmas.Bool.{ne_eqb}
 use Rattle.math_terms.specs.Terms.{nodes}
 use Rattle.term_cells.specs.declared.cell.Cell.{Cell}
-use Rattle.term_cells.specs.Listed.{listed}
+use Rattle.term_cells.specs.working.Listed.{listed}
 use Rattle.term_cells.specs.Growing.{Grows, IsShort, PartsLoad}
 use Rattle.term_cells.proofs.Building.{two_pushed}
 use Rattle.term_cells.proofs.Forms.{nodes_by_list}

@@ -1,7 +1,7 @@
 use Rattle.std.proofs.Common.{◌≡◌, ◌∙◌, ap, refl, length, w64, arith, rules}
 use Rattle.std.specs.Fmt.{signed_decimal}
 use Rattle.std.proofs.lemmas.Int.{to_z-of_z}
-use Rattle.term_cells.specs.Reading.{State}
+use Rattle.term_cells.specs.working.Reading.{State}
 use Rattle.term_cells.proofs.Falling.{nothing_left, bytes_fall, no_child_falls, child_falls, bytes_go_on, child_goes_on, child_is_below, done_falls}
 use Rattle.term_cells.proofs.cells.Cells.advance.Goals as goal
 

@@ -1,6 +1,6 @@
 use Rattle.std.proofs.Common.{◌≡◌, ℕ, List}
 use Rattle.num_theory.specs.Linear.{text_before}
-use Rattle.term_cells.specs.Reading.{Reads, weight}
+use Rattle.term_cells.specs.working.Reading.{Reads, weight}
 use Rattle.term_cells.proofs.cells.Cells.compare.Given as goal
 
 abbrev pub invariant-bytes : goal.invariant-bytes

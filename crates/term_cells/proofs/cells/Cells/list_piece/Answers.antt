@@ -1,6 +1,6 @@
 use Rattle.std.proofs.Common.{subst, sym, ℕ, ◌∷◌, false}
 use Rattle.term_cells.specs.declared.before.Next.TheVariants.{Child}
-use Rattle.term_cells.specs.Pieces.{NextIs, list_pieces}
+use Rattle.term_cells.specs.working.Pieces.{NextIs, list_pieces}
 use Rattle.term_cells.proofs.PieceOf.{first_listed, others_listed}
 use Rattle.term_cells.proofs.cells.Cells.list_piece.Goals as goal
 

@@ -1,5 +1,5 @@
 use Rattle.std.proofs.Common.{◌≡◌, ◌≤◌, ℕ, List}
-use Rattle.term_cells.specs.Reading.{Reads, weight}
+use Rattle.term_cells.specs.working.Reading.{Reads, weight}
 use Rattle.term_cells.proofs.cells.Cells.next_byte.Given as goal
 
 abbrev pub invariant-loop-byte : goal.invariant-loop-byte

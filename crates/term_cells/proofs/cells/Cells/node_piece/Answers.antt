@@ -2,8 +2,8 @@ use Rattle.std.proofs.Common.{◌≡◌, ◌∙◌, ◌==◌, ap, refl, subst, s
 use Rattle.std.specs.Fmt.{signed_decimal}
 use Rattle.std.proofs.lemmas.Int.{to_z-of_z}
 use Rattle.term_cells.specs.declared.before.Next.TheVariants.{Mark, Child}
-use Rattle.term_cells.specs.Marks.{closing, left_least, opening, right_least, strength}
-use Rattle.term_cells.specs.Pieces.{NextIs, term_pieces}
+use Rattle.term_cells.specs.working.Marks.{closing, left_least, opening, right_least, strength}
+use Rattle.term_cells.specs.working.Pieces.{NextIs, term_pieces}
 use Rattle.term_cells.proofs.PieceOf.{OperandIs, first_operand, second_operand, third_operand, stage_says, stage_between}
 use Rattle.term_cells.proofs.cells.Cells.node_piece.Goals as goal
 

@@ -1,0 +1,5 @@
+pub mod Cases
+pub mod Children
+pub mod Path
+pub mod Room
+pub mod Walking
