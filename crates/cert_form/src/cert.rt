@@ -112,37 +112,3 @@ impl NamedCert {
         })
     }
 }
-
-#[cfg(test)]
-mod tests {
-    use super::*;
-    use math_terms::Name;
-    use std::test::Fail;
-
-    fn two_steps(alloc: Global) -> Result<Cert, NoMemory> {
-        let mut steps = Items::new(alloc);
-        steps.push(Step::Split(1, 2))?;
-        steps.push(Step::Same)?;
-        Ok(Cert { steps })
-    }
-
-    fn condition_name(alloc: Global) -> Result<VcName, NoMemory> {
-        let component = Name::new(alloc, b"Queue")?;
-        let part = Name::new(alloc, b"Swap")?;
-        Ok(VcName {
-            component,
-            part,
-            number: 3,
-        })
-    }
-
-    #[test]
-    fn a_copy_has_the_same_steps(rt: HostRuntime) -> Result<(), Fail> {
-        let name = condition_name(rt.alloc())?;
-        let cert = two_steps(rt.alloc())?;
-        let copied = NamedCert { name, cert }.copy(rt.alloc())?;
-        assert_eq!(rt; copied.name.number, 3);
-        assert_eq!(rt; copied.cert.steps.len(), 2);
-        Ok(())
-    }
-}

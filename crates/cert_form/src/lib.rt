@@ -4,3 +4,4 @@
 mod cert;
 
 pub use cert::{Cert, NamedCert, Step};
+pub use math_terms::{Line, RowName, VcName};

@@ -7,7 +7,7 @@ use Rattle.vc_sequents.specs.declared.sequent.SplitError.{SplitError}
 use Rattle.vc_sequents.specs.declared.sequent.SplitError.TheVariants.{TooManyCases, NoMemory}
 use Rattle.vc_sequents.specs.Splitting.{Leaves, LeavesOfAll, branch, leaf, more, none, split_of}
 use Rattle.vc_sequents.specs.Laws.{AreLeaves, IsSplitRefusal, SplitsKeepValidity}
-use Rattle.vc_sequents.specs.Working.{AddsLeaf, PutsParts, IsStep, IsStepRefusal}
+use Rattle.vc_sequents.specs.working.Leaves.{AddsLeaf, PutsParts, IsStep, IsStepRefusal}
 use Rattle.vc_sequents.specs.Ending.{work}
 use Rattle.vc_sequents.proofs.Ending.{have_leaves, some_work, split_less_work}
 use Rattle.vc_sequents.proofs.Leaving.{Parted, leaves_keep, parted}

@@ -1,4 +1,4 @@
 pub mod Ending
 pub mod Splitting
 pub mod Laws
-pub mod Working
+pub mod working

@@ -6,8 +6,8 @@ ghost use Rattle.math_terms.specs.declared.term.Term.TheOpen.{Term-F};
 ghost use Rattle.math_terms.specs.declared.term.Term.TheViews.{out-Term};
 ghost use Rattle.vc_sequents.specs.Splitting.{form_cases, form_goals, goal_cases, hypothesis_cases, negation_cases, not as not_of, of_numbers, of_truths, one_case, one_goal, two_cases, two_goals};
 
-use crate::formulas::{both, first_alone, implication, less, less_eq, negation, neither, not_both};
-use math_terms::{Formula, NoMemory, Sort, Term, kind_of};
+use crate::formulas::{first_alone, implication, less, less_eq, negation, neither, not_both};
+use math_terms::{Formula, NoMemory, Sort, Term, both, kind_of};
 use sqlite_items::Items;
 use std::alloc::{AllocError, Global};
 

@@ -1,6 +1,6 @@
 //! The formulas that splitting makes of the parts of others.
 
-ghost use Rattle.std.specs.Prelude.{◌≡◌, IfOk, Ok};
+ghost use Rattle.std.specs.Prelude.{◌≡◌, IfOk};
 ghost use Rattle.vc_sequents.specs.Splitting.{and as and_of, implies as implies_of, less as less_of, less_eq as less_eq_of, not as not_of, or as or_of};
 
 use math_terms::{Boxed, Formula, NoMemory, Term, boxed};
@@ -85,30 +85,4 @@ fn boxed_negation(alloc: Global, a: &Formula) -> Result<Boxed<Formula>, NoMemory
     ensures { IfOk result (λ b. b ≡ not_of a.now) }
 {
     boxed(alloc, negation(alloc, a)?)
-}
-
-/// Both values, where memory sufficed for both.
-pub(crate) fn both<T: Drop, U: Drop>(
-    a: Result<T, NoMemory>,
-    b: Result<U, NoMemory>,
-) -> Result<(T, U), NoMemory>
-    ensures { IfOk result (λ p. (a ≡ Ok p.0) × (b ≡ Ok p.1)) }
-{
-    match a {
-        Ok(a) => match b {
-            Ok(b) => Ok((a, b)),
-            Err(e) => Err(e),
-        },
-        Err(e) => Err(e),
-    }
-}
-
-/// The first value and the second, where memory sufficed for the first.
-pub(crate) fn with<T: Drop, U: Drop>(a: Result<T, NoMemory>, b: U) -> Result<(T, U), NoMemory>
-    ensures { IfOk result (λ p. (a ≡ Ok p.0) × (p.1 ≡ b)) }
-{
-    match a {
-        Ok(a) => Ok((a, b)),
-        Err(e) => Err(e),
-    }
 }

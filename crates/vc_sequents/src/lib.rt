@@ -6,9 +6,8 @@ mod formulas;
 mod laws;
 mod sequent;
 mod splitting;
-#[cfg(test)]
-mod tests;
 
 pub use laws::{one_leaf_list, splits_end, splits_keep_validity};
+pub use math_terms::VcName;
 pub use sequent::{Sequent, SplitError, Vc, VcKind};
 pub use splitting::{leaves, split, split_formula};

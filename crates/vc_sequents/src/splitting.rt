@@ -5,13 +5,12 @@ ghost use Rattle.std.specs.List.{AllByRecursion};
 ghost use Rattle.math_terms.specs.Kinds.{sort_of_desc};
 ghost use Rattle.vc_sequents.specs.Splitting.{IsValidSequent, in_place, sorts_of, split_at, split_goal, split_hypothesis, split_of, with_case, with_goal_case};
 ghost use Rattle.vc_sequents.specs.Laws.{AreLeaves, IsSplitRefusal};
-ghost use Rattle.vc_sequents.specs.Working.{IsStep, IsStepRefusal};
+ghost use Rattle.vc_sequents.specs.working.Leaves.{IsStep, IsStepRefusal};
 
 use crate::cases::{goal_cases, hypothesis_cases};
-use crate::formulas::with;
 use crate::laws::splits_keep_validity;
 use crate::sequent::{Sequent, SplitError, copy_vars};
-use math_terms::{Desc, Formula, Name, NoMemory, Sort, copy_terms};
+use math_terms::{Desc, Formula, Name, NoMemory, Sort, copy_terms, with};
 use sqlite_items::Items;
 use std::alloc::{AllocError, Global};
 
