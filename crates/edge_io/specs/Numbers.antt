@@ -99,11 +99,17 @@ abbrev pub NothingLeft : Option (List ℕ) → Option (List ℕ) → Type 0
 NothingLeft None new = Unit {0}
 NothingLeft (Some left) new = new ≡ Some []
 
--- What reading a text to its end answers, from what the source had left and has left.
+-- a source that told has left what it had but for its first n bytes
+abbrev pub LacksFirst : Option (List ℕ) → Option (List ℕ) → ℕ → Type 0
+LacksFirst None new n = Unit {0}
+LacksFirst (Some left) new n = new ≡ Some (drop n left)
+
+-- What reading a text to its end answers, from what the source had left and has left: where the text is too long, one byte more than a
+-- text may have was read.
 abbrev pub IsText : Option (List ℕ) → Option (List ℕ) → Result (Vec ℕ Global) InputError → Type 0
 IsText old new (Ok text) = HadLeft old text.items × NothingLeft old new × (length text.items ≤ most_text_bytes)
 IsText old new (Err Failed) = Unit {0}
-IsText old new (Err TooLong) = (text : List ℕ) × HadLeft old text × (most_text_bytes < length text)
+IsText old new (Err TooLong) = (text : List ℕ) × HadLeft old text × (most_text_bytes < length text) × LacksFirst old new (most_text_bytes + 1)
 IsText old new (Err (NoNumber at)) = ⊥
 IsText old new (Err (TooMany at)) = ⊥
 IsText old new (Err NoMemory) = Unit {0}
@@ -117,16 +123,16 @@ Answers text (Err (NoNumber at)) = reading text ≡ Err (NoNumber at)
 Answers text (Err (TooMany at)) = reading text ≡ Err (TooMany at)
 Answers text (Err NoMemory) = Unit {0}
 
--- At these answers a source that told was read to its end.
-abbrev pub ReadsAll : Option (List ℕ) → Option (List ℕ) → Result (Vec ℤ Global) InputError → Type 0
-ReadsAll old new (Ok numbers) = NothingLeft old new
-ReadsAll old new (Err Failed) = Unit {0}
-ReadsAll old new (Err TooLong) = Unit {0}
-ReadsAll old new (Err (NoNumber at)) = NothingLeft old new
-ReadsAll old new (Err (TooMany at)) = NothingLeft old new
-ReadsAll old new (Err NoMemory) = Unit {0}
+-- What a source that told has left: nothing at these answers, and where the text is too long what follows the first byte that it may not have.
+abbrev pub LeavesInput : Option (List ℕ) → Option (List ℕ) → Result (Vec ℤ Global) InputError → Type 0
+LeavesInput old new (Ok numbers) = NothingLeft old new
+LeavesInput old new (Err Failed) = Unit {0}
+LeavesInput old new (Err TooLong) = LacksFirst old new (most_text_bytes + 1)
+LeavesInput old new (Err (NoNumber at)) = NothingLeft old new
+LeavesInput old new (Err (TooMany at)) = NothingLeft old new
+LeavesInput old new (Err NoMemory) = Unit {0}
 
 -- What reading numbers answers, from what the source had left and has left: there is a text, what was left where the
 -- source told, whose reading the answer is.
 abbrev pub IsReading : Option (List ℕ) → Option (List ℕ) → Result (Vec ℤ Global) InputError → Type 0
-IsReading old new answer = (text : List ℕ) × HadLeft old text × Answers text answer × ReadsAll old new answer
+IsReading old new answer = (text : List ℕ) × HadLeft old text × Answers text answer × LeavesInput old new answer

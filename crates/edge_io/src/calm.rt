@@ -3,7 +3,7 @@
 ghost use Rattle.std.specs.Prelude.{◌≡◌, ◌≤◌, ◌+◌, [], Some, IfOk, IsErrOf, IsFalse, IsOk, OnErr, OnOk, drop, length, true};
 ghost use Rattle.edge_io.specs.Files.{LeavesFew, ReadAnswers, SameOthers, WriteAnswers};
 ghost use Rattle.edge_io.specs.Held.{Grew, Took};
-ghost use Rattle.edge_io.specs.Memory.{files_of, told};
+ghost use Rattle.edge_io.specs.working.Memory.{files_of, told};
 
 use crate::left::read_from;
 use crate::listed::Listed;
@@ -77,7 +77,7 @@ impl CalmSink {
 }
 
 impl Sink for CalmSink {
-    ghost use Rattle.edge_io.specs.Memory.{told};
+    ghost use Rattle.edge_io.specs.working.Memory.{told};
 
     ghost faults = { λ _. 0 };
 
@@ -107,7 +107,7 @@ impl CalmShelf {
 
 impl Shelf for CalmShelf {
     ghost use Rattle.std.specs.Prelude.{true};
-    ghost use Rattle.edge_io.specs.Memory.{files_of};
+    ghost use Rattle.edge_io.specs.working.Memory.{files_of};
 
     ghost faults = { λ _. 0 };
 
@@ -132,44 +132,5 @@ impl Shelf for CalmShelf {
         ensures never_fails { ¬ IsErrOf result ShelfError.Failed }
     {
         pairs::write_file(&mut self.files, name, bytes)
-    }
-}
-
-#[cfg(test)]
-mod tests {
-    use super::*;
-    use crate::sink::write_all;
-
-    #[test]
-    fn a_source_gives_its_bytes_in_pieces(rt: HostRuntime) -> Result<(), ShelfError> {
-        let mut source = CalmSource::new(vec![in rt.alloc(); 1, 2, 3]?);
-        let mut buf = [0; 2];
-        assert_eq!(rt; source.read(&mut buf), Ok(2));
-        assert_eq!(rt; source.read(&mut buf), Ok(1));
-        assert_eq!(rt; buf[0], 3);
-        assert_eq!(rt; source.read(&mut buf), Ok(0));
-        Ok(())
-    }
-
-    #[test]
-    fn a_sink_holds_what_was_written(rt: HostRuntime) -> Result<(), ShelfError> {
-        let mut sink = CalmSink::new(rt.alloc());
-        write_all(&mut sink, b"ab")?;
-        write_all(&mut sink, b"cd")?;
-        assert_eq!(rt; sink.held.as_slice(), b"abcd".as_slice());
-        assert!(rt; sink.tells);
-        Ok(())
-    }
-
-    #[test]
-    fn a_shelf_reads_what_was_written(rt: HostRuntime) -> Result<(), ShelfError> {
-        let mut shelf = CalmShelf::new(rt.alloc());
-        let mut into = Vec::new(rt.alloc());
-        shelf.write("a", b"one")?;
-        shelf.write("b", b"two")?;
-        shelf.read("a", &mut into)?;
-        assert_eq!(rt; into.as_slice(), b"one".as_slice());
-        assert!(rt; matches!(shelf.read("c", &mut into), Err(ShelfError::NotFound)));
-        Ok(())
     }
 }

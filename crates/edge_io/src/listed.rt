@@ -141,29 +141,3 @@ impl Text {
         self.text.as_str()
     }
 }
-
-#[cfg(test)]
-mod tests {
-    use super::*;
-
-    #[test]
-    fn a_list_is_made_and_changed(rt: HostRuntime) -> Result<(), AllocError> {
-        let mut listed = Listed::from_slice(rt.alloc(), b"ab")?;
-        listed.extend_from_slice(b"cd")?;
-        listed.push(b'e')?;
-        listed.replace(0, b'z');
-        assert_eq!(rt; listed.len(), 5);
-        assert_eq!(rt; listed.into_vec().as_slice(), b"zbcde".as_slice());
-        assert!(rt; Listed::<u8>::new(rt.alloc()).is_empty());
-        Ok(())
-    }
-
-    #[test]
-    fn a_text_is_its_string(rt: HostRuntime) -> Result<(), AllocError> {
-        let text = Text::from_str(rt.alloc(), "abc")?;
-        assert_eq!(rt; text.as_str(), "abc");
-        let text = Text::from_string(String::from_str(rt.alloc(), "de")?);
-        assert_eq!(rt; text.as_str(), "de");
-        Ok(())
-    }
-}

@@ -3,7 +3,7 @@
 ghost use Rattle.std.specs.Prelude.{◌≡◌, ◌≤◌, ◌<◌, ◌+◌, ◌-◌, ◌^◌, ◌↔◌, [], Some, IfOk, IsErr, IsErrOf, IsFalse, OnErr, OnOk, drop, length, min, true};
 ghost use Rattle.edge_io.specs.Files.{LeavesFew, ReadAnswers, SameOthers, WriteAnswers};
 ghost use Rattle.edge_io.specs.Held.{Grew, Took};
-ghost use Rattle.edge_io.specs.Memory.{Fails, files_of, told};
+ghost use Rattle.edge_io.specs.working.Memory.{Fails, files_of, told};
 
 use crate::calls::call_fails;
 use crate::left::read_from;
@@ -120,7 +120,7 @@ impl MemSink {
 }
 
 impl Sink for MemSink {
-    ghost use Rattle.edge_io.specs.Memory.{told};
+    ghost use Rattle.edge_io.specs.working.Memory.{told};
 
     ghost faults = { λ sink. sink.faults };
 
@@ -169,7 +169,7 @@ impl MemShelf {
 
 impl Shelf for MemShelf {
     ghost use Rattle.std.specs.Prelude.{true};
-    ghost use Rattle.edge_io.specs.Memory.{files_of};
+    ghost use Rattle.edge_io.specs.working.Memory.{files_of};
 
     ghost faults = { λ shelf. shelf.faults };
 
@@ -213,56 +213,5 @@ impl Shelf for MemShelf {
             return Err(ShelfError::Failed);
         }
         pairs::write_file(&mut self.files, name, bytes)
-    }
-}
-
-#[cfg(test)]
-mod tests {
-    use super::*;
-    use crate::sink::write_all;
-
-    #[test]
-    fn a_source_gives_its_bytes_in_pieces(rt: HostRuntime) -> Result<(), ShelfError> {
-        let alloc = rt.alloc();
-        let mut source = MemSource::new(vec![in alloc; 1, 2, 3]?, vec![in alloc; 2]?);
-        let mut buf = [0; 2];
-        assert_eq!(rt; source.read(&mut buf), Ok(2));
-        assert_eq!(rt; buf, [1, 2]);
-        assert_eq!(rt; source.read(&mut buf), Err(Failed));
-        assert_eq!(rt; source.faults, 1);
-        assert_eq!(rt; source.read(&mut buf), Ok(1));
-        assert_eq!(rt; buf[0], 3);
-        assert_eq!(rt; source.read(&mut buf), Ok(0));
-        assert_eq!(rt; source.faults, 1);
-        Ok(())
-    }
-
-    #[test]
-    fn a_sink_holds_what_came_before_a_failed_write(rt: HostRuntime) -> Result<(), ShelfError> {
-        let alloc = rt.alloc();
-        let mut sink = MemSink::new(alloc, vec![in alloc; 2]?);
-        assert_eq!(rt; write_all(&mut sink, b"ab"), Ok(()));
-        assert_eq!(rt; write_all(&mut sink, b"cd"), Err(Failed));
-        assert_eq!(rt; sink.faults, 1);
-        assert_eq!(rt; write_all(&mut sink, b"ef"), Ok(()));
-        assert_eq!(rt; sink.held.as_slice(), b"abef".as_slice());
-        assert!(rt; sink.tells);
-        Ok(())
-    }
-
-    #[test]
-    fn a_shelf_reads_what_was_written(rt: HostRuntime) -> Result<(), ShelfError> {
-        let alloc = rt.alloc();
-        let mut shelf = MemShelf::new(alloc, vec![in alloc; 4]?);
-        let mut into = vec![in alloc; 9]?;
-        assert!(rt; matches!(shelf.read("a", &mut into), Err(ShelfError::NotFound)));
-        assert!(rt; into.is_empty());
-        shelf.write("a", b"one")?;
-        shelf.write("a", b"two")?;
-        assert!(rt; matches!(shelf.read("a", &mut into), Err(ShelfError::Failed)));
-        assert_eq!(rt; shelf.faults, 1);
-        shelf.read("a", &mut into)?;
-        assert_eq!(rt; into.as_slice(), b"two".as_slice());
-        Ok(())
     }
 }

@@ -105,6 +105,7 @@ fn parse_numbers(alloc: Global, text: &[u8]) -> Result<Vec<i64>, InputError>
     ensures reading { Answers text.now result }
     ensures few { IfOk result (λ numbers. vec_len numbers ≤ most_numbers) }
     ensures never_fails { ¬ IsErrOf result InputError.Failed }
+    ensures never_long { ¬ IsErrOf result InputError.TooLong }
 {
     let mut numbers = Vec::new(alloc);
     // Here no blank stands at the place, and all before it is read.
@@ -145,7 +146,7 @@ fn read_text<S: Source>(alloc: Global, source: &mut S) -> Result<Vec<u8>, InputE
 
 /// Reads the source to its end: numbers with spaces, tabs, CRs and LFs between them, before and after. A number is an
 /// optional `-` and at least one digit, within 64 signed bits. `TooLong` comes before `NoNumber` and `TooMany`, whatever
-/// the text holds.
+/// the text holds; then exactly 1,048,577 bytes are read.
 pub fn read_numbers<S: Source>(alloc: Global, source: &mut S) -> Result<Vec<i64>, InputError>
     ensures reading { IsReading (S.left source.old) (S.left source.new) result }
     ensures few { IfOk result (λ numbers. vec_len numbers ≤ most_numbers) }
@@ -154,72 +155,4 @@ pub fn read_numbers<S: Source>(alloc: Global, source: &mut S) -> Result<Vec<i64>
 {
     let text = read_text(alloc, source)?;
     parse_numbers(alloc, text.as_slice())
-}
-
-#[cfg(test)]
-mod tests {
-    use super::*;
-    use crate::calm::CalmSource;
-    use crate::memory::MemSource;
-
-    fn read(alloc: Global, text: &[u8]) -> Result<Vec<i64>, InputError> {
-        let mut source = CalmSource::new(Vec::from_slice(alloc, text)?);
-        read_numbers(alloc, &mut source)
-    }
-
-    #[test]
-    fn a_text_is_read_as_its_numbers(rt: HostRuntime) {
-        let rows: [(&str, Result<&[i64], InputError>); 13] = [
-            ("", Ok(&[])),
-            (" \n", Ok(&[])),
-            ("21", Ok(&[21])),
-            ("1 2\t3\r\n", Ok(&[1, 2, 3])),
-            ("x", Err(InputError::NoNumber { at: 0 })),
-            ("9223372036854775807", Ok(&[9223372036854775807])),
-            ("9223372036854775808", Err(InputError::NoNumber { at: 0 })),
-            ("-9223372036854775808", Ok(&[-9223372036854775808])),
-            ("007 -0", Ok(&[7, 0])),
-            ("5 -", Err(InputError::NoNumber { at: 2 })),
-            ("1 --2", Err(InputError::NoNumber { at: 2 })),
-            ("1- 2", Err(InputError::NoNumber { at: 0 })),
-            ("+1", Err(InputError::NoNumber { at: 0 })),
-        ];
-        for (text, expected) in rows {
-            let numbers = read(rt.alloc(), text.as_bytes());
-            let answer = match &numbers {
-                Ok(numbers) => Ok(numbers.as_slice()),
-                Err(error) => Err(*error),
-            };
-            assert_eq!(rt; answer, expected, "{text:?}");
-        }
-    }
-
-    #[test]
-    fn the_last_number_that_may_not_come_is_refused(rt: HostRuntime) -> Result<(), InputError> {
-        let mut text = Vec::new(rt.alloc());
-        for _ in 0..65_536 {
-            text.extend_from_slice(b"0 ")?;
-        }
-        let refused = read(rt.alloc(), text.as_slice()).err();
-        assert_eq!(rt; refused, Some(InputError::TooMany { at: 131_070 }));
-        Ok(())
-    }
-
-    #[test]
-    fn a_text_may_not_be_too_long(rt: HostRuntime) -> Result<(), InputError> {
-        let text = vec![in rt.alloc(); b' '; 1_048_577]?;
-        let refused = read(rt.alloc(), text.as_slice()).err();
-        assert_eq!(rt; refused, Some(InputError::TooLong));
-        Ok(())
-    }
-
-    #[test]
-    fn a_failed_read_is_answered(rt: HostRuntime) -> Result<(), InputError> {
-        let text = Vec::from_slice(rt.alloc(), b"21")?;
-        let mut source = MemSource::new(text, vec![in rt.alloc(); 1]?);
-        let refused = read_numbers(rt.alloc(), &mut source).err();
-        assert_eq!(rt; refused, Some(InputError::Failed));
-        assert_eq!(rt; source.faults, 1);
-        Ok(())
-    }
 }

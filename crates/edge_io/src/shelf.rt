@@ -11,7 +11,7 @@ use thiserror::Error;
 pub const LONGEST_FILE: usize = 16_777_216;
 
 /// Why a shelf refused a call.
-#[derive(Debug, Drop, Error)]
+#[derive(Clone, Copy, Debug, PartialEq, Eq, Error)]
 pub enum ShelfError {
     #[error("there is no such file")]
     NotFound,

@@ -2,4 +2,3 @@ pub mod Meaning
 pub mod Formed
 pub mod Trace
 pub mod Running
-pub mod Samples

@@ -7,8 +7,6 @@ mod linked;
 mod operators;
 mod running;
 mod state;
-#[cfg(test)]
-mod tests;
 mod trace;
 
 pub use interpreter::meaning;

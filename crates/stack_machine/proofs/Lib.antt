@@ -4,4 +4,3 @@ pub mod Expressions
 pub mod Statements
 pub mod Simulated
 pub mod Patch
-pub mod Samples

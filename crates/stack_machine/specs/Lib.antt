@@ -5,4 +5,3 @@ pub mod Code
 pub mod Simulation
 pub mod Running
 pub mod Refusal
-pub mod Samples

@@ -8,8 +8,6 @@ mod machine;
 mod operands;
 mod operators;
 mod running;
-#[cfg(test)]
-mod tests;
 
 pub use codegen::{CodeError, compile};
 pub use image::{Cell, Image, Instr, ProcInfo, Stop};

@@ -14,8 +14,8 @@ use edge_io::source::Failed;
 use itoa::Buffer;
 use std::alloc::Global;
 
-/// Runs the machine for at most so many instructions. The line of each number that is written goes to the sink before
-/// the next instruction begins.
+/// Runs the machine for at most so many instructions. The line of each number that is written is passed to `write_all` before
+/// the next instruction begins: that is how the code is written, and the contract speaks of what the sink has got at the end.
 pub fn run<K: Sink>(alloc: Global, image: &Image, input: &[i64], steps: u64, out: &mut K) -> Stop
     requires main { HasMain image.now }
     requires never_stuck { NeverStuck image.now input.now steps }
