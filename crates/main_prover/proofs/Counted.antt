@@ -13,7 +13,7 @@ use Rattle.vc_prover.specs.Search.{search, IsFound, IsOpen}
 use Rattle.main_form.specs.declared.module.Module.{Module}
 use Rattle.main_vcs.specs.Terms.{empty_string, integer}
 use Rattle.main_vcs.specs.Walk.{Condition}
-use Rattle.main_prover.specs.Deciding.{IsTrueAtEnd, IsComputedGoal}
+use Rattle.main_prover.specs.working.Deciding.{IsTrueAtEnd, IsComputedGoal}
 use Rattle.main_prover.specs.Proving.{sequent_of, IsInClass, IsTrueFormula, IsComputed, IsProved}
 
 pub truth_found : (t : Term) (o : Option Bool) (r : Bool) → MatchOption o (is_plain t ≡ false) (λ b. (is_plain t ≡ true) × ((I : Interpretation) (w : Valuation) → holds I w t ≡ b)) → (IsTrue r ↔ (o ≡ Some true)) → (IsTrue r ↔ IsTrueFormula t)

@@ -18,8 +18,8 @@ use Rattle.main_prover.specs.declared.judge.Purpose.{Purpose}
 use Rattle.main_prover.specs.declared.judge.Purpose.TheVariants.{Collect, Prove}
 use Rattle.main_prover.specs.declared.judge.Stop.{Stop}
 use Rattle.main_prover.specs.declared.judge.Stop.TheVariants as stop
-use Rattle.main_prover.specs.Making.{Made, made, condition_at, sum_made}
-use Rattle.main_prover.specs.Judging.{IsFirstAmong, AreDone, HasJudged, Goes, IsUnproved, IsStop, Stops, Judges, Makes, IsRefusal, AllProved, AfterPart, IsTerm, HasJudgedSum}
+use Rattle.main_prover.specs.working.Making.{Made, made, condition_at, sum_made}
+use Rattle.main_prover.specs.working.Judging.{IsFirstAmong, AreDone, HasJudged, Goes, IsUnproved, IsStop, Stops, Judges, Makes, IsRefusal, AllProved, AfterPart, IsTerm, HasJudgedSum}
 use Rattle.main_prover.specs.Proving.{IsProved, IsFirstUnproved, sequent_of, vc_of, vcs_from}
 
 is_prove : Purpose → Type 0

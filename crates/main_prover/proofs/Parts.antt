@@ -17,7 +17,7 @@ use Rattle.main_form.specs.declared.module.Guard.TheViews.{roll-Guard}
 use Rattle.main_form.specs.declared.module.Guard.TheFolds.{fold-roll-Guard, map-Guard}
 use Rattle.main_vcs.specs.Terms.{num, len, add, sub, both, either, negated, bounds, in_bounds}
 use Rattle.main_vcs.specs.Walk.{Path, Condition, with_hyps, number_of, compared}
-use Rattle.main_prover.specs.Making.{Made, made, condition_at, sum_made, expr_made_step, expr_made, guard_made_step, guard_made}
+use Rattle.main_prover.specs.working.Making.{Made, made, condition_at, sum_made, expr_made_step, expr_made, guard_made_step, guard_made}
 
 expr_rolled : (e : Expr) (x : Expr-F Expr) (p : Path) → e ≡ roll-Expr x → expr_made e p ≡ expr_made_step (map-Expr Expr (Path → Made) expr_made x) p
 expr_rolled e x p is = ap (λ d. expr_made d p) is ∙ ap (λ (f : Path → Made). f p) (fold-roll-Expr (Path → Made) expr_made_step x)

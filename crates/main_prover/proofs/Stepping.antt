@@ -19,10 +19,10 @@ use Rattle.main_vcs.specs.Terms.{negated}
 use Rattle.main_vcs.specs.Walk.{Path, Condition, Items, Onward, conditions, with_hyps, after_read, in_order, stmt_step, stmt, stmts, names_of, at_end}
 use Rattle.main_prover.specs.declared.judge.Judge.{Judge}
 use Rattle.main_prover.specs.declared.judge.Stop.{Stop}
-use Rattle.main_prover.specs.Judging.{Goes, Stops, Judges}
-use Rattle.main_prover.specs.Making.{Made, condition_at, expr_made, guard_made, under, left_over}
-use Rattle.main_prover.specs.Points.{assigned, written}
-use Rattle.main_prover.specs.Remaining.{or_no_stmts, readable, weights}
+use Rattle.main_prover.specs.working.Judging.{Goes, Stops, Judges}
+use Rattle.main_prover.specs.working.Making.{Made, condition_at, expr_made, guard_made, under, left_over}
+use Rattle.main_prover.specs.working.Points.{assigned, written}
+use Rattle.main_prover.specs.working.Remaining.{or_no_stmts, readable, weights}
 use Rattle.main_prover.proofs.Going.{goes_then, stops_early, stops_late, judges_then}
 use Rattle.main_prover.proofs.Walking.{conditions_append, expr_makes, guard_makes}
 

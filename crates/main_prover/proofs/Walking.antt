@@ -12,7 +12,7 @@ use Rattle.main_form.specs.declared.module.Guard.TheViews.{roll-Guard}
 use Rattle.main_form.specs.declared.module.Guard.TheFolds.{map-Guard, fold-roll-Guard, ind-Guard}
 use Rattle.main_vcs.specs.Terms.{num, add, sub, both, either, negated, in_bounds}
 use Rattle.main_vcs.specs.Walk.{Path, Condition, Item, Check, End, Items, WithTerm, in_range, expr_step, expr, compared, guard_step, guard, conditions}
-use Rattle.main_prover.specs.Making.{Made, made, condition_at, sum_made, then_made, expr_made_step, expr_made, guard_made_step, guard_made}
+use Rattle.main_prover.specs.working.Making.{Made, made, condition_at, sum_made, then_made, expr_made_step, expr_made, guard_made_step, guard_made}
 
 pub conditions_append : (xs ys : Items) → conditions (xs ++ ys) ≡ conditions xs ++ conditions ys
 conditions_append [] ys = refl

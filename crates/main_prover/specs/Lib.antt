@@ -1,6 +1,2 @@
 pub mod Proving
-pub mod Making
-pub mod Points
-pub mod Judging
-pub mod Deciding
-pub mod Remaining
+pub mod working

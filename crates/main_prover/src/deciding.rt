@@ -4,7 +4,7 @@ ghost use Rattle.std.specs.Prelude.{◌≡◌, ◌↔◌, IfOk, IsTrue, Some, tr
 ghost use Rattle.vc_sequents.specs.declared.sequent.VcKind.TheVariants as kinds;
 ghost use Rattle.main_vcs.specs.Terms.{empty_string};
 ghost use Rattle.main_vcs.specs.Walk.{Condition};
-ghost use Rattle.main_prover.specs.Deciding.{IsComputedGoal, IsTrueAtEnd};
+ghost use Rattle.main_prover.specs.working.Deciding.{IsComputedGoal, IsTrueAtEnd};
 ghost use Rattle.main_prover.specs.Proving.{IsChain, IsProved, IsTrueFormula, sequent_of};
 
 use crate::checking::checked_certificate;

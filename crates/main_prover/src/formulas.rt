@@ -3,9 +3,9 @@
 ghost use Rattle.std.specs.Prelude.{◌≡◌, [], ◌∷◌, Err, IfOk, MatchResult, Ok, pos};
 ghost use Rattle.main_vcs.specs.Terms as spec;
 ghost use Rattle.main_vcs.specs.Walk as walk;
-ghost use Rattle.main_prover.specs.Judging.{AfterPart, HasJudgedSum, IsTerm, Makes};
-ghost use Rattle.main_prover.specs.Making.{expr_made, guard_made};
-ghost use Rattle.main_prover.specs.Points.{point_of};
+ghost use Rattle.main_prover.specs.working.Judging.{AfterPart, HasJudgedSum, IsTerm, Makes};
+ghost use Rattle.main_prover.specs.working.Making.{expr_made, guard_made};
+ghost use Rattle.main_prover.specs.working.Points.{point_of};
 
 use crate::judge::{Judge, Stop};
 use crate::path::Path;

@@ -2,9 +2,9 @@
 
 ghost use Rattle.std.specs.Prelude.{◌≡◌, ◌+◌, [], ◌∷◌, ◌++◌, IfOk, MatchResult, OnOk, codes};
 ghost use Rattle.main_form.specs.declared.module.Module.{Module};
-ghost use Rattle.main_prover.specs.Judging.{AllProved, HasJudged, IsRefusal, Judges};
-ghost use Rattle.main_prover.specs.Making.{condition_at};
-ghost use Rattle.main_prover.specs.Points.{point_of};
+ghost use Rattle.main_prover.specs.working.Judging.{AllProved, HasJudged, IsRefusal, Judges};
+ghost use Rattle.main_prover.specs.working.Making.{condition_at};
+ghost use Rattle.main_prover.specs.working.Points.{point_of};
 ghost use Rattle.main_prover.specs.Proving.{vc_of};
 
 use crate::deciding::is_proved;

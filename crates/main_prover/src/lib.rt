@@ -13,8 +13,6 @@ mod numbers;
 mod path;
 mod proving;
 mod terms;
-#[cfg(test)]
-mod tests;
 mod variables;
 mod walk;
 

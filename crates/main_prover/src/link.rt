@@ -16,7 +16,7 @@ ghost use Rattle.main_vcs.specs.Walk.{number_of};
 use crate::numbers::number_of;
 use crate::variables::{variables, zeros};
 use main_form::{Comparison, Expr, Guard, Literal, Module, Stmt};
-use math_terms::{Name, NoMemory};
+use math_terms::{Name, NoMemory, both};
 use source_meaning::{BinOp, Instance, LExpr, LStmt, Linked, Proc, Scalar, Spot, TypeForm};
 use sqlite_items::{Boxed, Items};
 use std::alloc::Global;
@@ -34,18 +34,6 @@ fn constant(l: Literal) -> Result<LExpr, NoMemory>
 {
     let n = number_of(l)?;
     Ok(LExpr::Const(Scalar::Int(n)))
-}
-
-// Both, where memory sufficed for both.
-fn both<A: Drop, B: Drop>(
-    a: Result<A, NoMemory>,
-    b: Result<B, NoMemory>,
-) -> Result<(A, B), NoMemory>
-    ensures { IfOk result (λ p. (a ≡ Ok p.0) × (b ≡ Ok p.1)) }
-{
-    let a = a?;
-    let b = b?;
-    Ok((a, b))
 }
 
 // An expression.

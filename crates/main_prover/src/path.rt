@@ -1,16 +1,16 @@
 //! Points of paths.
 
-ghost use Rattle.std.specs.Prelude.{◌≡◌, ◌+◌, ◌++◌, [], ◌∷◌, IfOk, OnOk, Ok, pos, slice_index_or, slice_set, map};
+ghost use Rattle.std.specs.Prelude.{◌≡◌, ◌+◌, ◌++◌, [], ◌∷◌, IfOk, OnOk, pos, slice_index_or, slice_set, map};
 ghost use Rattle.main_vcs.specs.Terms as spec;
 ghost use Rattle.main_vcs.specs.Walk as walk;
-ghost use Rattle.main_prover.specs.Points.{assigned, counted, known_more, point_of, sequent_at, split, written};
+ghost use Rattle.main_prover.specs.working.Points.{assigned, counted, known_more, point_of, sequent_at, split, written};
 
 use crate::names::{fresh_name, variable_name};
 use crate::numbers::next;
 use crate::terms::{cat, equal, integer, lower_bound, single, stream, upper_bound};
 use crate::variables::{variables, zeros};
 use main_form::Module;
-use math_terms::{Desc, Name, NoMemory, Term, copy_terms};
+use math_terms::{Desc, Name, NoMemory, Term, both, copy_terms};
 use sqlite_items::Items;
 use std::alloc::Global;
 use std::mem::replace;
@@ -100,22 +100,6 @@ fn first_vars(alloc: Global, m: &Module) -> Result<Items<(Name, Desc)>, NoMemory
     vars.push(both(m.input.copy(alloc), stream(alloc))?)?;
     vars.push(both(m.output.copy(alloc), stream(alloc))?)?;
     Ok(vars)
-}
-
-/// Both values, where memory sufficed for both.
-fn both<T: Drop, U: Drop>(
-    a: Result<T, NoMemory>,
-    b: Result<U, NoMemory>,
-) -> Result<(T, U), NoMemory>
-    ensures { IfOk result (λ p. (a ≡ Ok p.0) × (b ≡ Ok p.1)) }
-{
-    match a {
-        Ok(a) => match b {
-            Ok(b) => Ok((a, b)),
-            Err(e) => Err(e),
-        },
-        Err(e) => Err(e),
-    }
 }
 
 fn first_terms(alloc: Global, names: &[Name]) -> Result<Items<Term>, NoMemory>

@@ -4,10 +4,10 @@ ghost use Rattle.std.specs.Prelude.{◌≡◌, [], ◌∷◌, ◌++◌, Err, IfO
 ghost use Rattle.vc_sequents.specs.declared.sequent.VcKind.TheVariants as kinds;
 ghost use Rattle.main_vcs.specs.Terms as spec;
 ghost use Rattle.main_vcs.specs.Walk as walk;
-ghost use Rattle.main_prover.specs.Judging.{Goes, Judges, Stops};
-ghost use Rattle.main_prover.specs.Making.{condition_at, expr_made, guard_made, left_over};
-ghost use Rattle.main_prover.specs.Points.{assigned, point_of, written};
-ghost use Rattle.main_prover.specs.Remaining.{or_no_stmts, readable};
+ghost use Rattle.main_prover.specs.working.Judging.{Goes, Judges, Stops};
+ghost use Rattle.main_prover.specs.working.Making.{condition_at, expr_made, guard_made, left_over};
+ghost use Rattle.main_prover.specs.working.Points.{assigned, point_of, written};
+ghost use Rattle.main_prover.specs.working.Remaining.{or_no_stmts, readable};
 
 use crate::judge::{Judge, Stop};
 use crate::path::Path;

@@ -5,3 +5,4 @@ pub mod Expressions
 pub mod Guards
 pub mod Statements
 pub mod Sound
+pub mod Events

@@ -1,5 +1,5 @@
 -- A prefix of a piece is a prefix of a longer one.
-use Rattle.std.proofs.Common.{◌∙◌, sym, ℕ, List, ◌++◌, length, Option, Result, Ok, Err, ⊎_elim, subst, arith}
+use Rattle.std.proofs.Common.{◌∙◌, sym, ℕ, ◌≤◌, List, ◌++◌, length, Option, Result, Ok, Err, ⊎_elim, subst, arith}
 use Rattle.std.specs.Prelude.{OnErr, OnOk}
 use Rattle.std.proofs.Common.{inl, inr}
 use Rattle.edge_io.specs.Faults.{Rose}
@@ -24,6 +24,6 @@ map_err (Ok x) P Q f p = tt
 map_err (Err e) P Q f p = f p
 
 -- what a write of a line leaves
-pub noted : {A E : Type 0} (r : Result A E) (old new : Option (List ℕ)) (before now : ℕ) (text : List ℕ) → OnOk r (Grew old new text) → OnErr r (GrewByPrefix old new text) → OnErr r (Rose before now) → Noted old new before now text
-noted (Ok x) old new before now text grew front rose = inl grew
-noted (Err e) old new before now text grew front rose = inr (rose, front)
+pub noted : {A E : Type 0} (r : Result A E) (old new : Option (List ℕ)) (before now : ℕ) (text : List ℕ) → before ≤ now → OnOk r (Grew old new text) → OnErr r (GrewByPrefix old new text) → OnErr r (Rose before now) → Noted old new before now text
+noted (Ok x) old new before now text le grew front rose = record { never_falls = le; got = inl grew }
+noted (Err e) old new before now text le grew front rose = record { never_falls = le; got = inr (rose, front) }

@@ -1,25 +1,65 @@
 -- The words have one answer over the files and the input.
-use Rattle.std.proofs.Common.{◌≡◌, ◌∙◌, sym, ap, refl, subst, ℕ, ◌≤◌, ◌<◌, ℤ, List, [], length, Option, Some, None, Result, Ok, Err, arith}
-use Rattle.std.specs.Prelude.{slice_get}
+use Rattle.std.proofs.Common.{◌≡◌, ◌∙◌, sym, ap, subst, ℕ, ℤ, List, [], length, Option, Some, None, Result, Ok, Err, arith}
+use Rattle.std.specs.Prelude.{option_map, slice_get}
 use Rattle.edge_io.specs.declared.numbers.InputError.{InputError}
 use Rattle.edge_io.specs.Files.{Files}
 use Rattle.edge_io.specs.Numbers.{reading}
-use Rattle.res_lexer.specs.declared.token.TokenKind.{TokenKind}
+use Rattle.res_lexer.specs.declared.token.Token.{Token}
 use Rattle.res_lexer.specs.declared.token.LexError.{LexError}
-use Rattle.res_lexer.specs.Tokens.{Refuses}
+use Rattle.res_lexer.specs.Tokens.{AreTokens, Refuses}
 use Rattle.stack_machine.specs.Lines.{lines}
 use Rattle.stack_machine.specs.Machine.{State, after}
 use Rattle.main_form.specs.declared.module.Module.{Module}
-use Rattle.main_form.specs.Spelling.{IsNotYet, IsRefusedAt, kinds_in, place_or}
+use Rattle.main_form.specs.Spelling.{IsModule, IsNotYet, IsRefusedAt, Spells, kinds_in, place_or}
 use Rattle.main_prover.specs.Proving.{NoneFirst, OneFirst}
-use Rattle.main_reader.specs.Laws.{OneRefusal}
-use Rattle.command_words.specs.Words.{Other, Run, Word, command, read_words}
+use Rattle.main_reader.specs.Laws.{NoModuleRefused, OneModule, OneRefusal}
+use Rattle.command_words.specs.Words.{Command, Other, Run, Word, command, command_of, read_words}
 use Rattle.resolve_cli.specs.declared.status.Status.{Status}
 use Rattle.resolve_cli.specs.declared.status.Status.TheVariants as status
 use Rattle.resolve_cli.specs.Answer.{Answers, FileAnswer, ModuleAnswer, RunAnswer, TextAnswer, bad_input, file, halted, image_of, long, no_file, no_reading, no_tokens, not_built, not_yet, ran, short, spelled, spent, too_long, unproved}
 use Rattle.resolve_cli.specs.Texts.{lex_line, not_yet_line, unproved_line}
-use Rattle.resolve_cli.proofs.Stages as stages
-use Rattle.resolve_cli.proofs.Stages.{TextLaws, no_tokens_spelled, not_yet_spelled, same_command, same_module, same_name, same_steps, same_text}
+
+-- the laws of texts, as the functions of the crates below state them
+pub record TextLaws : Type 0 where
+  pub one_reading : (bytes : List ℕ) (ts us : List Token) → AreTokens bytes ts → AreTokens bytes us → ts ≡ us
+  pub read_or_refused : (bytes : List ℕ) (ts : List Token) (e : LexError) → AreTokens bytes ts → Refuses bytes e → ⊥
+  pub one_module : OneModule
+  pub no_module_refused : NoModuleRefused
+
+module _ (laws : TextLaws) where
+  -- a text spells one module
+  same_module : (bytes : List ℕ) (m n : Module) → Spells bytes m → Spells bytes n → m ≡ n
+  same_module bytes m n (ts, are, is) (us, are', is') =
+      laws.one_module us m n (subst (λ vs. IsModule vs m) (laws.one_reading bytes ts us are are') is) is'
+
+  no_tokens_spelled : (bytes : List ℕ) (m : Module) (e : LexError) → Spells bytes m → Refuses bytes e → ⊥
+  no_tokens_spelled bytes m e (ts, are, is) refuses = laws.read_or_refused bytes ts e are refuses
+
+  not_yet_spelled : (bytes : List ℕ) (m : Module) (at : ℕ) → Spells bytes m → IsNotYet bytes at → ⊥
+  not_yet_spelled bytes m at (ts, are, is) (us, k, are', refused, place) =
+      laws.no_module_refused ts m k is (subst (λ vs. IsRefusedAt (kinds_in vs) k) (sym (laws.one_reading bytes ts us are are')) refused)
+
+-- the words say one command
+same_command : (words : List Word) (c d : Command) → command words ≡ Some c → command words ≡ Some d → c ≡ d
+same_command words c d e f = let g : Some c ≡ Some d = sym e ∙ f in cc
+
+same_name : (m n : List ℕ) (j k : ℕ) → Run m j ≡ Run n k → m ≡ n
+same_name m n j k e = cc
+
+same_steps : (m n : List ℕ) (j k : ℕ) → Run m j ≡ Run n k → j ≡ k
+same_steps m n j k e = cc
+
+no_words : (words : List Word) (c : Command) → read_words words ≡ None → command words ≡ Some c → ⊥
+no_words words c e f = let g : None ≡ Some c = ap (option_map command_of) (sym e) ∙ f in absurd (cc)
+
+no_other : (words : List Word) (name : List ℕ) (steps : ℕ) → command words ≡ Some Other → command words ≡ Some (Run name steps) → ⊥
+no_other words name steps e f = let g : Other ≡ Run name steps = same_command words Other (Run name steps) e f in absurd (cc)
+
+not_there : (files : Files) (name bytes : List ℕ) → files name ≡ None → files name ≡ Some bytes → ⊥
+not_there files name bytes e f = let g : None ≡ Some bytes = sym e ∙ f in absurd (cc)
+
+same_text : (files : Files) (name a b : List ℕ) → files name ≡ Some a → files name ≡ Some b → a ≡ b
+same_text files name a b e f = let g : Some a ≡ Some b = sym e ∙ f in cc
 
 -- the laws that two refusals are one
 pub record RefusalLaws : Type 0 where
@@ -117,25 +157,25 @@ module _ (laws : RefusalLaws) where
 
   pub one_answer : (words : List Word) (files : Files) (input : List ℕ) (s t : Status) (o p : List ℕ) → Answers words files input s o → Answers words files input t p → (s ≡ t) × (o ≡ p)
   one_answer words files input s t o p (no_reading none is nothing) (no_reading none' is' nothing') = both s t _ o p [] is is' nothing nothing'
-  one_answer words files input s t o p (no_reading none is nothing) (not_built other is' nothing') = absurd (stages.no_words words Other none other)
-  one_answer words files input s t o p (no_reading none is nothing) (no_file n k says missing is' nothing') = absurd (stages.no_words words (Run n k) none says)
-  one_answer words files input s t o p (no_reading none is nothing) (file n k bytes says holds a) = absurd (stages.no_words words (Run n k) none says)
-  one_answer words files input s t o p (not_built other is nothing) (no_reading none is' nothing') = absurd (stages.no_words words Other none other)
+  one_answer words files input s t o p (no_reading none is nothing) (not_built other is' nothing') = absurd (no_words words Other none other)
+  one_answer words files input s t o p (no_reading none is nothing) (no_file n k says missing is' nothing') = absurd (no_words words (Run n k) none says)
+  one_answer words files input s t o p (no_reading none is nothing) (file n k bytes says holds a) = absurd (no_words words (Run n k) none says)
+  one_answer words files input s t o p (not_built other is nothing) (no_reading none is' nothing') = absurd (no_words words Other none other)
   one_answer words files input s t o p (not_built other is nothing) (not_built other' is' nothing') = both s t _ o p [] is is' nothing nothing'
-  one_answer words files input s t o p (not_built other is nothing) (no_file n k says missing is' nothing') = absurd (stages.no_other words n k other says)
-  one_answer words files input s t o p (not_built other is nothing) (file n k bytes says holds a) = absurd (stages.no_other words n k other says)
-  one_answer words files input s t o p (no_file n k says missing is nothing) (no_reading none is' nothing') = absurd (stages.no_words words (Run n k) none says)
-  one_answer words files input s t o p (no_file n k says missing is nothing) (not_built other is' nothing') = absurd (stages.no_other words n k other says)
+  one_answer words files input s t o p (not_built other is nothing) (no_file n k says missing is' nothing') = absurd (no_other words n k other says)
+  one_answer words files input s t o p (not_built other is nothing) (file n k bytes says holds a) = absurd (no_other words n k other says)
+  one_answer words files input s t o p (no_file n k says missing is nothing) (no_reading none is' nothing') = absurd (no_words words (Run n k) none says)
+  one_answer words files input s t o p (no_file n k says missing is nothing) (not_built other is' nothing') = absurd (no_other words n k other says)
   one_answer words files input s t o p (no_file n k says missing is nothing) (no_file l j says' missing' is' nothing') =
       both_none s t _ _ o p is is' (ap (λ x. status.NotFound x) (same_name n l k j (same_command words (Run n k) (Run l j) says says'))) nothing nothing'
   one_answer words files input s t o p (no_file n k says missing is nothing) (file l j bytes says' holds a) =
       let names = same_name n l k j (same_command words (Run n k) (Run l j) says says') in
-      absurd (stages.no_file files l bytes (ap files (sym names) ∙ missing) holds)
-  one_answer words files input s t o p (file n k bytes says holds a) (no_reading none is nothing) = absurd (stages.no_words words (Run n k) none says)
-  one_answer words files input s t o p (file n k bytes says holds a) (not_built other is nothing) = absurd (stages.no_other words n k other says)
+      absurd (not_there files l bytes (ap files (sym names) ∙ missing) holds)
+  one_answer words files input s t o p (file n k bytes says holds a) (no_reading none is nothing) = absurd (no_words words (Run n k) none says)
+  one_answer words files input s t o p (file n k bytes says holds a) (not_built other is nothing) = absurd (no_other words n k other says)
   one_answer words files input s t o p (file n k bytes says holds a) (no_file l j says' missing is nothing) =
       let names = same_name l n j k (same_command words (Run l j) (Run n k) says' says) in
-      absurd (stages.no_file files n bytes (ap files (sym names) ∙ missing) holds)
+      absurd (not_there files n bytes (ap files (sym names) ∙ missing) holds)
   one_answer words files input s t o p (file n k bytes says holds a) (file l j bs says' holds' b) =
       let same = same_command words (Run n k) (Run l j) says says' in
       let names = same_name n l k j same in

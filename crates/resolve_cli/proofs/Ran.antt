@@ -1,12 +1,12 @@
 -- What a run of a module's image leaves on out.
 use Rattle.std.proofs.Common.{◌≡◌, ◌∙◌, sym, ap, refl, subst, ℕ, ◌≤◌, ℤ, List, [], ◌∷◌, ◌++◌, length, Option, Some, None, arith, append_assoc, inl, inr}
 use Rattle.std.specs.Prelude.{IsSomeAnd, IsSome}
+use Rattle.std.proofs.lemmas.Bool.{true≢false}
 use Rattle.std.proofs.lemmas.List.{take-append-le, take_all}
 use Rattle.edge_io.specs.Held.{Grew, GrewByPrefix}
 use Rattle.stack_machine.specs.declared.image.Image.{Image}
-use Rattle.stack_machine.specs.declared.image.Stop.{Stop}
 use Rattle.stack_machine.specs.declared.image.Stop.TheVariants as stop
-use Rattle.stack_machine.specs.Machine.{State, after}
+use Rattle.stack_machine.specs.Machine.{Frame, State, after}
 use Rattle.stack_machine.specs.Lines.{line, lines}
 use Rattle.stack_machine.specs.Runs.{Stopped}
 use Rattle.stack_machine.specs.Simulation.{IsFront}
@@ -14,7 +14,7 @@ use Rattle.main_form.specs.declared.module.Module.{Module}
 use Rattle.resolve_cli.specs.declared.status.Status.{Status}
 use Rattle.resolve_cli.specs.declared.status.Status.TheVariants as status
 use Rattle.resolve_cli.specs.Answer.{RunAnswer, halted, spent, image_of}
-use Rattle.resolve_cli.specs.Resolves.{Answered, answer, not_read, cut}
+use Rattle.resolve_cli.specs.Resolves.{Answered, answer, cut}
 
 lines-append : (xs ys : List ℤ) → lines (xs ++ ys) ≡ lines xs ++ lines ys
 lines-append [] ys = refl
@@ -32,18 +32,18 @@ pub some_and : {A : Type 0} (o : Option A) (P : A → Type 0) → IsSomeAnd o P 
 some_and None P h = absurd h
 some_and (Some a) P h = (a, refl, h)
 
-same_some : {A : Type 0} (o : Option A) (a b : A) → o ≡ Some a → o ≡ Some b → a ≡ b
-same_some o a b e f = let g : Some a ≡ Some b = sym e ∙ f in cc
+some_there : {A : Type 0} (o : Option A) → IsSome o → (a : A) × (o ≡ Some a)
+some_there None h = absurd (true≢false (sym h))
+some_there (Some a) h = (a, refl)
 
 module _ (m : Module) (numbers : List ℤ) (steps : ℕ) where
-  -- out of an answer are the lines of the state's output
-  pub run_out : (t : State) → after (image_of m) numbers steps ≡ Some t → (s : Status) (out : List ℕ) → RunAnswer m numbers steps s out → out ≡ lines t.output
-  run_out t reached s out (halted u there over is lined) = lined ∙ ap (λ (v : State). lines v.output) (same_some (after (image_of m) numbers steps) u t there reached)
-  run_out t reached s out (spent u there goes is lined) = lined ∙ ap (λ (v : State). lines v.output) (same_some (after (image_of m) numbers steps) u t there reached)
-
-  run_reached : (s : Status) (out : List ℕ) → RunAnswer m numbers steps s out → (t : State) × (after (image_of m) numbers steps ≡ Some t) × (out ≡ lines t.output)
-  run_reached s out (halted u there over is lined) = (u, there, lined)
-  run_reached s out (spent u there goes is lined) = (u, there, lined)
+  -- A run that comes to a state answers: it is over there or goes on.
+  run_there : (t : State) → after (image_of m) numbers steps ≡ Some t → (s : Status) × RunAnswer m numbers steps s (lines t.output)
+  run_there t reached = by_frames t.frames refl
+    where
+      by_frames : (fs : List Frame) → t.frames ≡ fs → (s : Status) × RunAnswer m numbers steps s (lines t.output)
+      by_frames [] is = (status.Done, halted t reached is refl refl)
+      by_frames (f ∷ fs) is = (status.StepsSpent steps, spent t reached (λ none. let g : [] ≡ f ∷ fs = sym none ∙ is in absurd (cc)) refl refl)
 
   pub halted_answered : (old new : Option (List ℕ)) → Stopped (image_of m) numbers steps stop.Halted old new → Answered (RunAnswer m numbers steps) status.Done old new
   halted_answered old new h =
@@ -58,12 +58,13 @@ module _ (m : Module) (numbers : List ℤ) (steps : ℕ) where
   pub fault_answered : (old new : Option (List ℕ)) → Stopped (image_of m) numbers steps stop.SinkFault old new → Answered (RunAnswer m numbers steps) status.SinkFault old new
   fault_answered old new h =
       let at = some_and (after (image_of m) numbers steps) (λ s. GrewByPrefix old new (lines s.output)) h in
-      cut (inl refl) (λ s out a. subst (λ bs. GrewByPrefix old new bs) (sym (run_out at.0 at.1 s out a)) at.2)
+      let end = run_there at.0 at.1 in
+      cut (inl refl) end.0 (lines at.0.output) end.1 at.2
 
-  pub memory_answered : Grows → (old new : Option (List ℕ)) → Stopped (image_of m) numbers steps stop.NoMemory old new → Answered (RunAnswer m numbers steps) status.NoMemory old new
-  memory_answered grows old new (k, le, h) =
+  pub memory_answered : Grows → IsSome (after (image_of m) numbers steps) → (old new : Option (List ℕ)) → Stopped (image_of m) numbers steps stop.NoMemory old new → Answered (RunAnswer m numbers steps) status.NoMemory old new
+  memory_answered grows stands old new (k, le, h) =
       let at = some_and (after (image_of m) numbers k) (λ s. Grew old new (lines s.output)) h in
-      cut (inr refl) (λ s out a.
-      let end = run_reached s out a in
-      let front = grows (image_of m) numbers k steps at.0 end.0 le at.1 end.1 in
-      subst (λ bs. GrewByPrefix old new bs) (sym (end.2 ∙ ap lines front.1 ∙ lines-append at.0.output front.0)) (grew_prefix old new (lines at.0.output) (lines front.0) at.2))
+      let t = some_there (after (image_of m) numbers steps) stands in
+      let end = run_there t.0 t.1 in
+      let front = grows (image_of m) numbers k steps at.0 t.0 le at.1 t.1 in
+      cut (inr refl) end.0 (lines t.0.output) end.1 (subst (λ bs. GrewByPrefix old new bs) (sym (ap lines front.1 ∙ lines-append at.0.output front.0)) (grew_prefix old new (lines at.0.output) (lines front.0) at.2))

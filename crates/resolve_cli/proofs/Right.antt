@@ -1,5 +1,5 @@
 -- Accepted modules run right.
-use Rattle.std.proofs.Common.{◌≡◌, ◌∙◌, sym, ap, refl, subst, ℕ, ◌*◌, ◌≤◌, ◌<◌, ℤ, List, [], ◌∷◌, length, Option, Some, None}
+use Rattle.std.proofs.Common.{◌≡◌, ◌∙◌, sym, ap, refl, subst, ℕ, ◌*◌, ◌≤◌, ℤ, List, [], ◌∷◌, length, Option, Some, None}
 use Rattle.std.specs.Prelude.{IsSome, IsSomeAnd}
 use Rattle.source_meaning.specs.declared.linked.Linked.{Linked}
 use Rattle.source_meaning.specs.declared.linked.Proc.{Proc}
@@ -17,12 +17,12 @@ use Rattle.stack_machine.specs.Simulation.{IsFront, NeverWrong, Simulates}
 use Rattle.main_form.specs.declared.module.Claim.{Claim}
 use Rattle.main_form.specs.declared.module.Module.{Module}
 use Rattle.main_form.specs.Spelling.{IsForm, Spells}
+use Rattle.main_vcs.specs.Events.{EventsAreGood}
 use Rattle.main_vcs.specs.Linking.{main_of}
 use Rattle.main_vcs.specs.Soundness.{Allows, ConditionsAreSound, IsInput, IsLinkOf, IsRightRun}
 use Rattle.main_prover.specs.Proving.{ProvedIsValid}
 use Rattle.resolve_cli.specs.Answer.{IsAccepted, IsBuilt, image_of, linked_of}
-use Rattle.resolve_cli.specs.Headline.{IsRight}
-use Rattle.resolve_cli.proofs.Ran.{some_and}
+use Rattle.resolve_cli.specs.Headline.{IsRight, meaning_of}
 
 -- the laws of runs, as the functions of the crates below state them
 pub record RunLaws : Type 0 where
@@ -55,17 +55,32 @@ module _ (laws : RunLaws) (m : Module) (form : IsForm m) (accepted : IsAccepted 
   simulated : (input : List ℤ) → Simulates (linked_of m) (main_of m) (image_of m) input
   simulated input = laws.simulates (linked_of m) (main_of m) (laws.formed m (linked_of m) form (link_of m)) input
 
+  abbrev Follows : List ℤ → ℕ → State → Type 0
+  Follows input n s = IsFront s.output (meaning_of m input (2 * n)).output
+
+  follows : (input : List ℤ) → IsInput input → (n : ℕ) → IsSomeAnd (after (image_of m) input n) (Follows input n)
+  follows input is n = (simulated input).steps (never_wrong input is) n
+
   pub goes_on : (input : List ℤ) → IsInput input → (n : ℕ) → IsSome (after (image_of m) input n)
-  goes_on input is n =
-      some_is (after (image_of m) input n) (λ s. IsFront s.output (run_of (linked_of m) (main_of m) input (2 * n)).1.output) ((simulated input).steps (never_wrong input is) n)
+  goes_on input is n = some_is (after (image_of m) input n) (Follows input n) (follows input is n)
+
+  writes_front : (input : List ℤ) → IsInput input → (n : ℕ) (s : State) → after (image_of m) input n ≡ Some s → Follows input n s
+  writes_front input is n s reached = subst (λ o. IsSomeAnd o (Follows input n)) reached (follows input is n)
 
   halts_allowed : (input : List ℤ) → IsInput input → (n : ℕ) (s : State) → after (image_of m) input n ≡ Some s → s.frames ≡ [] → Allows m.claim s.output
   halts_allowed input is n s reached over =
       let done = (simulated input).halts_only (never_wrong input is) n s reached over in
       subst (λ out. Allows m.claim out) done.4 (done_allows m.claim (run_of (linked_of m) (main_of m) input done.0) done.1 done.2 (run_right input is done.0))
 
-  pub right : (bytes : List ℕ) → Spells bytes m → IsRight bytes m
-  right bytes spells = record { spells = spells; valid = laws.valid m accepted; never_stuck = goes_on; allowed = halts_allowed }
+  pub right : EventsAreGood → (bytes : List ℕ) → Spells bytes m → IsRight bytes m
+  right good bytes spells = record {
+    spells = spells;
+    valid = laws.valid m accepted;
+    never_stuck = goes_on;
+    front = writes_front;
+    allowed = halts_allowed;
+    good = λ input is fuel. good m (linked_of m) (link_of m) (laws.valid m accepted) input is fuel;
+  }
 
 -- the image that compiling a link gives
 pub same_image : (m : Module) (l : Linked) → IsLinkOf m l → (image : Image) → image ≡ code_of l (main_of m) → image ≡ image_of m

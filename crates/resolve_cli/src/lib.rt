@@ -2,8 +2,6 @@
 #![tactic(auto)]
 
 pub mod answer_laws;
-#[cfg(test)]
-mod condition_tests;
 mod notes;
 mod running;
 mod status;

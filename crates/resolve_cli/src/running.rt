@@ -1,6 +1,6 @@
 //! Running a module: its conditions proved, its image made, the input read, the machine started.
 
-ghost use Rattle.std.specs.Prelude.{◌≡◌, ◌≤◌, ℕ, ℤ, List, IsSome, MatchResult};
+ghost use Rattle.std.specs.Prelude.{◌≡◌, ◌≤◌, ◌⊎◌, ℕ, ℤ, List, IsSome, MatchResult};
 ghost use Rattle.edge_io.specs.Numbers.{HadLeft};
 ghost use Rattle.stack_machine.specs.Machine.{after};
 ghost use Rattle.stack_machine.specs.Runs.{HasMain, NeverStuck};
@@ -8,7 +8,8 @@ ghost use Rattle.main_form.specs.declared.module.Module.{Module};
 ghost use Rattle.main_form.specs.Spelling.{IsForm};
 ghost use Rattle.main_vcs.specs.Soundness.{IsInput};
 ghost use Rattle.resolve_cli.specs.Answer.{IsAccepted, IsBuilt, ModuleAnswer, RunAnswer, image_of};
-ghost use Rattle.resolve_cli.specs.Resolves.{Answered, Counted, IsRunEnd, Left, SomeAnswer};
+ghost use Rattle.resolve_cli.specs.Headline.{IsRunEnd};
+ghost use Rattle.resolve_cli.specs.Resolves.{Answered, Counted, IsCut, Left, SomeAnswer};
 
 use crate::status::{LinkError, Status};
 use crate::texts::unproved_line;
@@ -17,7 +18,7 @@ use edge_io::numbers::{InputError, read_numbers};
 use edge_io::sink::Sink;
 use edge_io::source::Source;
 use main_form::Module;
-use main_prover::laws::{modules_are_formed, none_first, proved_is_valid};
+use main_prover::laws::{modules_are_formed, proved_is_valid};
 use main_prover::{first_unproved, link_main};
 use main_vcs::laws::conditions_are_sound;
 use math_terms::{Name, NoMemory};
@@ -46,8 +47,8 @@ fn run_image<K: Sink>(
     requires main { HasMain image.now }
     requires never_stuck { NeverStuck image.now numbers.now steps }
     ensures answered { (m : Module) → image.now ≡ image_of m → Answered (RunAnswer m numbers.now steps) result (K.held out.old) (K.held out.new) }
-    ensures counted { (n : ℕ) → Counted result (K.faults out.old) (K.faults out.new) n n }
-    ensures ran { IsRunEnd result }
+    ensures counted { Counted Status.SinkFault result (K.faults out.old) (K.faults out.new) }
+    ensures ran { IsRunEnd result ⊎ IsCut result }
 {
     halted_stays();
     output_grows();
@@ -71,11 +72,11 @@ fn run_on_input<S: Source, K: Sink>(
     requires never_stuck { (numbers : List ℤ) → IsInput numbers → (n : ℕ) → IsSome (after image.now numbers n) }
     ensures answered { (text : List ℕ) × HadLeft (S.left input.old) text × ((m : Module) → image.now ≡ image_of m → IsBuilt m → Answered (ModuleAnswer m steps text) result (K.held out.old) (K.held out.new)) }
     ensures left { Left result (S.left input.old) (S.left input.new) (S.faults input.old) (S.faults input.new) }
-    ensures counted { Counted result (K.faults out.old) (K.faults out.new) (S.faults input.old) (S.faults input.new) }
+    ensures out_counted { Counted Status.SinkFault result (K.faults out.old) (K.faults out.new) }
+    ensures input_counted { Counted Status.SourceFault result (S.faults input.old) (S.faults input.new) }
     ensures no_shelf { result ≡ Status.ShelfFault → ⊥ }
 {
     unchanged();
-    none_first();
     match read_numbers(alloc, input) {
         Ok(numbers) => run_image(alloc, image, numbers.as_slice(), steps, out),
         Err(InputError::Failed) => Status::SourceFault,
@@ -98,7 +99,8 @@ fn run_accepted<S: Source, K: Sink>(
     requires accepted { IsAccepted m.now }
     ensures answered { SomeAnswer (ModuleAnswer m.now steps) (S.left input.old) result (K.held out.old) (K.held out.new) }
     ensures left { Left result (S.left input.old) (S.left input.new) (S.faults input.old) (S.faults input.new) }
-    ensures counted { Counted result (K.faults out.old) (K.faults out.new) (S.faults input.old) (S.faults input.new) }
+    ensures out_counted { Counted Status.SinkFault result (K.faults out.old) (K.faults out.new) }
+    ensures input_counted { Counted Status.SourceFault result (S.faults input.old) (S.faults input.new) }
     ensures no_shelf { result ≡ Status.ShelfFault → ⊥ }
 {
     unchanged();
@@ -127,7 +129,8 @@ pub fn run_module<S: Source, K: Sink>(
     requires form { IsForm m.now }
     ensures answered { SomeAnswer (ModuleAnswer m.now steps) (S.left input.old) result (K.held out.old) (K.held out.new) }
     ensures left { Left result (S.left input.old) (S.left input.new) (S.faults input.old) (S.faults input.new) }
-    ensures counted { Counted result (K.faults out.old) (K.faults out.new) (S.faults input.old) (S.faults input.new) }
+    ensures out_counted { Counted Status.SinkFault result (K.faults out.old) (K.faults out.new) }
+    ensures input_counted { Counted Status.SourceFault result (S.faults input.old) (S.faults input.new) }
     ensures no_shelf { result ≡ Status.ShelfFault → ⊥ }
 {
     unchanged();

@@ -1,5 +1,8 @@
 //! How a command ends.
 
+ghost use Rattle.std.specs.Prelude.{◌≡◌};
+ghost use Rattle.resolve_cli.specs.Numbers.{number_of};
+
 use edge_io::numbers::InputError;
 use math_terms::Name;
 
@@ -30,7 +33,9 @@ pub enum Status {
 
 impl Status {
     /// The number of the status, which is the exit status of the program.
-    pub fn number(&self) -> u8 {
+    pub fn number(&self) -> u8
+        ensures { result ≡ number_of self.now }
+    {
         match self {
             Status::Done => 0,
             Status::Refused { .. } => 1,

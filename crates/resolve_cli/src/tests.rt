@@ -1,9 +1,11 @@
 //! The rows of the top call.
 
-use crate::{Status, resolve};
+use crate::resolve;
 use edge_io::calm::{CalmShelf, CalmSink, CalmSource};
 use edge_io::memory::{MemShelf, MemSink, MemSource};
 use edge_io::shelf::Shelf;
+use edge_io::sink::Sink;
+use edge_io::source::Source;
 use std::alloc::{AllocError, Global};
 use std::test::Fail;
 
@@ -100,7 +102,7 @@ fn first_other(rt: &HostRuntime, rows: &[Row]) -> Result<Option<usize>, Fail> {
 }
 
 #[test]
-fn literals_are_written(rt: HostRuntime) -> Result<(), Fail> {
+fn each_command_ends_as_said(rt: HostRuntime) -> Result<(), Fail> {
     let rows = [
         ("run a", ONE_TWO, "", 0, "1\n2\n", ""),
         (
@@ -130,14 +132,6 @@ fn literals_are_written(rt: HostRuntime) -> Result<(), Fail> {
             "steps spent: 4\n",
         ),
         ("run a --steps 5", ONE_TWO, "", 0, "1\n2\n", ""),
-    ];
-    assert_eq!(rt; first_other(&rt, &rows)?, None);
-    Ok(())
-}
-
-#[test]
-fn other_texts_and_words_are_refused(rt: HostRuntime) -> Result<(), Fail> {
-    let rows = [
         (
             "run a",
             "Facility X; end X;",
@@ -159,14 +153,6 @@ fn other_texts_and_words_are_refused(rt: HostRuntime) -> Result<(), Fail> {
         ("run --steps 0 a", ONE_TWO, "", 2, "", "bad words\n"),
         ("run b", ONE_TWO, "", 3, "", "not found: b\n"),
         ("verify a", ONE_TWO, "", 15, "", "not built\n"),
-    ];
-    assert_eq!(rt; first_other(&rt, &rows)?, None);
-    Ok(())
-}
-
-#[test]
-fn numbers_are_doubled(rt: HostRuntime) -> Result<(), Fail> {
-    let rows = [
         (
             "run a",
             DOUBLER,
@@ -184,6 +170,27 @@ fn numbers_are_doubled(rt: HostRuntime) -> Result<(), Fail> {
     Ok(())
 }
 
+// What `run a` comes to: the number of the status, and what is written on notes.
+#[derive(Clone, Copy)]
+struct Said {
+    number: u8,
+    notes: &'static str,
+}
+
+// Whether `run a` comes to this.
+fn says<S: Source, K: Sink, F: Shelf>(
+    alloc: Global,
+    input: &mut S,
+    out: &mut K,
+    shelf: &mut F,
+    said: Said,
+) -> Result<bool, AllocError> {
+    let words = words_of(alloc, "run a")?;
+    let mut notes = CalmSink::new(alloc);
+    let status = resolve(alloc, words.as_slice(), input, out, &mut notes, shelf);
+    Ok(status.number() == said.number && notes.held.as_slice() == said.notes.as_bytes())
+}
+
 // A text of so many numbers 0, with blanks between them.
 fn zeros(alloc: Global, count: usize) -> Result<Vec<u8>, AllocError> {
     let mut text = Vec::new(alloc);
@@ -196,110 +203,90 @@ fn zeros(alloc: Global, count: usize) -> Result<Vec<u8>, AllocError> {
     Ok(text)
 }
 
-#[test]
-fn an_input_has_a_limit(rt: HostRuntime) -> Result<(), Fail> {
-    let alloc = rt.alloc();
-    let words = words_of(alloc, "run a")?;
+fn too_many_numbers(alloc: Global) -> Result<bool, AllocError> {
+    let said = Said {
+        number: 7,
+        notes: "bad input: TooMany at 131070\n",
+    };
     let mut shelf = shelf_with(alloc, GUARDED);
     let mut input = CalmSource::new(zeros(alloc, 65536)?);
-    let mut written = CalmSink::new(alloc);
-    let mut noted = CalmSink::new(alloc);
-    let status = resolve(
+    says(
         alloc,
-        words.as_slice(),
         &mut input,
-        &mut written,
-        &mut noted,
+        &mut CalmSink::new(alloc),
         &mut shelf,
-    );
-    assert_eq!(rt; status.number(), 7);
-    assert!(rt; noted.held.as_slice() == b"bad input: TooMany at 131070\n".as_slice());
-    Ok(())
+        said,
+    )
+}
+
+fn too_long_a_file(alloc: Global) -> Result<bool, AllocError> {
+    let said = Said {
+        number: 13,
+        notes: "file too long: a\n",
+    };
+    let mut shelf = CalmShelf::new(alloc);
+    let _ = shelf.write("a", vec![in alloc; b' '; 1048577]?.as_slice());
+    let mut input = CalmSource::new(Vec::new(alloc));
+    says(
+        alloc,
+        &mut input,
+        &mut CalmSink::new(alloc),
+        &mut shelf,
+        said,
+    )
 }
 
 #[test]
-fn a_source_that_fails_is_said(rt: HostRuntime) -> Result<(), Fail> {
-    let alloc = rt.alloc();
-    let words = words_of(alloc, "run a")?;
+fn inputs_and_files_have_limits(rt: HostRuntime) -> Result<(), AllocError> {
+    assert!(rt; too_many_numbers(rt.alloc())?);
+    assert!(rt; too_long_a_file(rt.alloc())?);
+    Ok(())
+}
+
+fn failing_source(alloc: Global) -> Result<bool, AllocError> {
+    let said = Said {
+        number: 8,
+        notes: "source fault\n",
+    };
     let mut shelf = shelf_with(alloc, GUARDED);
     let mut input = MemSource::new(Vec::from_slice(alloc, b"21")?, vec![in alloc; 1]?);
-    let mut written = CalmSink::new(alloc);
-    let mut noted = CalmSink::new(alloc);
-    let status = resolve(
-        alloc,
-        words.as_slice(),
-        &mut input,
-        &mut written,
-        &mut noted,
-        &mut shelf,
-    );
-    assert!(rt; matches!(status, Status::SourceFault));
-    assert!(rt; written.held.as_slice().is_empty());
-    assert!(rt; noted.held.as_slice() == b"source fault\n".as_slice());
-    Ok(())
+    let mut out = CalmSink::new(alloc);
+    let same = says(alloc, &mut input, &mut out, &mut shelf, said)?;
+    Ok(same && out.held.as_slice().is_empty())
 }
 
-#[test]
-fn a_sink_that_fails_ends_the_run(rt: HostRuntime) -> Result<(), Fail> {
-    let alloc = rt.alloc();
-    let words = words_of(alloc, "run a")?;
+fn failing_sink(alloc: Global) -> Result<bool, AllocError> {
+    let said = Said {
+        number: 9,
+        notes: "sink fault\n",
+    };
     let mut shelf = shelf_with(alloc, ONE_TWO);
     let mut input = CalmSource::new(Vec::new(alloc));
-    let mut written = MemSink::new(alloc, vec![in alloc; 1]?);
-    let mut noted = CalmSink::new(alloc);
-    let status = resolve(
-        alloc,
-        words.as_slice(),
-        &mut input,
-        &mut written,
-        &mut noted,
-        &mut shelf,
-    );
-    assert_eq!(rt; status.number(), 9);
-    assert!(rt; written.held.as_slice().is_empty());
-    Ok(())
+    let mut out = MemSink::new(alloc, vec![in alloc; 2]?);
+    let same = says(alloc, &mut input, &mut out, &mut shelf, said)?;
+    Ok(same && out.held.as_slice() == b"1".as_slice())
 }
 
-#[test]
-fn a_shelf_that_fails_is_said(rt: HostRuntime) -> Result<(), Fail> {
-    let alloc = rt.alloc();
-    let words = words_of(alloc, "run a")?;
+fn failing_shelf(alloc: Global) -> Result<bool, AllocError> {
+    let said = Said {
+        number: 4,
+        notes: "shelf fault\n",
+    };
     let mut shelf = MemShelf::new(alloc, vec![in alloc; 1]?);
     let mut input = CalmSource::new(Vec::new(alloc));
-    let mut written = CalmSink::new(alloc);
-    let mut noted = CalmSink::new(alloc);
-    let status = resolve(
+    says(
         alloc,
-        words.as_slice(),
         &mut input,
-        &mut written,
-        &mut noted,
+        &mut CalmSink::new(alloc),
         &mut shelf,
-    );
-    assert!(rt; matches!(status, Status::ShelfFault));
-    assert!(rt; noted.held.as_slice() == b"shelf fault\n".as_slice());
-    Ok(())
+        said,
+    )
 }
 
 #[test]
-fn a_component_file_has_a_limit(rt: HostRuntime) -> Result<(), Fail> {
-    let alloc = rt.alloc();
-    let words = words_of(alloc, "run a")?;
-    let mut shelf = CalmShelf::new(alloc);
-    let long = vec![in alloc; b' '; 1048577]?;
-    let _ = shelf.write("a", long.as_slice());
-    let mut input = CalmSource::new(Vec::new(alloc));
-    let mut written = CalmSink::new(alloc);
-    let mut noted = CalmSink::new(alloc);
-    let status = resolve(
-        alloc,
-        words.as_slice(),
-        &mut input,
-        &mut written,
-        &mut noted,
-        &mut shelf,
-    );
-    assert_eq!(rt; status.number(), 13);
-    assert!(rt; noted.held.as_slice() == b"file too long: a\n".as_slice());
+fn faults_are_said(rt: HostRuntime) -> Result<(), AllocError> {
+    assert!(rt; failing_source(rt.alloc())?);
+    assert!(rt; failing_sink(rt.alloc())?);
+    assert!(rt; failing_shelf(rt.alloc())?);
     Ok(())
 }

@@ -1,15 +1,16 @@
 //! The top call.
 
 ghost use Rattle.std.specs.Prelude.{◌≡◌, ◌≤◌, ◌<◌, ◌^◌, ◌↔◌, List, ℕ, Option, Some, IsTrue, length, map, slice_get, MatchResult, string_bytes};
-ghost use Rattle.edge_io.specs.Faults.{Rose};
 ghost use Rattle.edge_io.specs.Files.{Files, SameFiles};
 ghost use Rattle.res_lexer.specs.Tokens.{AreTokens, RefusesOrNoMemory};
 ghost use Rattle.command_words.specs.Words.{Run, Word, command};
 ghost use Rattle.main_form.specs.Spelling.{place_or};
 ghost use Rattle.resolve_cli.specs.Answer.{FileAnswer, TextAnswer, most_component_bytes};
-ghost use Rattle.resolve_cli.specs.Resolves.{Completes, Counted, GoesOn, IsDone, IsTextRefusal, Left, Noted, RanRight, SomeAnswer, WasAnswered};
+ghost use Rattle.resolve_cli.specs.Headline.{Headline};
+ghost use Rattle.resolve_cli.specs.Resolves.{Counted, DidAnswer, IsTextRefusal, Left, Noted, SomeAnswer};
 ghost use Rattle.resolve_cli.specs.Texts.{note_of};
 
+use crate::answer_laws::headline;
 use crate::notes::write_note;
 use crate::running::{refused, run_module};
 use crate::status::Status;
@@ -19,13 +20,9 @@ use edge_io::laws::unchanged;
 use edge_io::shelf::{Shelf, ShelfError};
 use edge_io::sink::Sink;
 use edge_io::source::Source;
-use main_prover::laws::{modules_are_formed, none_first, proved_is_valid};
-use main_reader::laws::{no_module_refused, one_module};
 use main_reader::{ReadError, read_module};
-use main_vcs::laws::conditions_are_sound;
 use math_terms::{Name, NoMemory};
-use res_lexer::{LexError, Token, one_reading, read_or_refused, tokens};
-use stack_machine::laws::code_simulates;
+use res_lexer::{LexError, Token, tokens, tokens_lie};
 use std::alloc::Global;
 
 // The most bytes of a component's file.
@@ -56,14 +53,11 @@ fn run_tokens<S: Source, K: Sink>(
     requires are { AreTokens bytes.now tokens.now }
     ensures answered { SomeAnswer (TextAnswer file.now bytes.now steps) (S.left input.old) result (K.held out.old) (K.held out.new) }
     ensures left { Left result (S.left input.old) (S.left input.new) (S.faults input.old) (S.faults input.new) }
-    ensures counted { Counted result (K.faults out.old) (K.faults out.new) (S.faults input.old) (S.faults input.new) }
+    ensures out_counted { Counted Status.SinkFault result (K.faults out.old) (K.faults out.new) }
+    ensures input_counted { Counted Status.SourceFault result (S.faults input.old) (S.faults input.new) }
     ensures no_shelf { result ≡ Status.ShelfFault → ⊥ }
 {
     unchanged();
-    one_reading();
-    read_or_refused();
-    one_module();
-    no_module_refused();
     match read_module(alloc, tokens) {
         Ok(read) => run_module(alloc, &read, steps, input, out),
         Err(ReadError::NotYet { token }) => {
@@ -108,10 +102,12 @@ fn run_text<S: Source, K: Sink>(
     requires { length bytes.now < 2 ^ 32 }
     ensures answered { SomeAnswer (TextAnswer file.now bytes.now steps) (S.left input.old) result (K.held out.old) (K.held out.new) }
     ensures left { Left result (S.left input.old) (S.left input.new) (S.faults input.old) (S.faults input.new) }
-    ensures counted { Counted result (K.faults out.old) (K.faults out.new) (S.faults input.old) (S.faults input.new) }
+    ensures out_counted { Counted Status.SinkFault result (K.faults out.old) (K.faults out.new) }
+    ensures input_counted { Counted Status.SourceFault result (S.faults input.old) (S.faults input.new) }
     ensures no_shelf { result ≡ Status.ShelfFault → ⊥ }
 {
     unchanged();
+    tokens_lie();
     match tokens(alloc, bytes) {
         Ok(tokens) => run_tokens(alloc, file, bytes, tokens.as_slice(), steps, input, out),
         Err(e) => refuse_text(alloc, file, &e),
@@ -154,7 +150,8 @@ fn run_bytes<S: Source, K: Sink>(
     requires { length bytes.now < 2 ^ 32 }
     ensures answered { SomeAnswer (FileAnswer file.now bytes.now steps) (S.left input.old) result (K.held out.old) (K.held out.new) }
     ensures left { Left result (S.left input.old) (S.left input.new) (S.faults input.old) (S.faults input.new) }
-    ensures counted { Counted result (K.faults out.old) (K.faults out.new) (S.faults input.old) (S.faults input.new) }
+    ensures out_counted { Counted Status.SinkFault result (K.faults out.old) (K.faults out.new) }
+    ensures input_counted { Counted Status.SourceFault result (S.faults input.old) (S.faults input.new) }
     ensures no_shelf { result ≡ Status.ShelfFault → ⊥ }
 {
     unchanged();
@@ -174,10 +171,11 @@ fn run_file<S: Source, K: Sink, F: Shelf>(
     out: &mut K,
     shelf: &mut F,
 ) -> Status
-    ensures answered { (words : List Word) → command words ≡ Some (Run file.now steps) → WasAnswered words (F.tells shelf.old) (F.files shelf.old) (S.left input.old) result (K.held out.old) (K.held out.new) }
+    ensures answered { (words : List Word) → command words ≡ Some (Run file.now steps) → DidAnswer words (F.tells shelf.old) (F.files shelf.old) (S.left input.old) result (K.held out.old) (K.held out.new) }
     ensures left { Left result (S.left input.old) (S.left input.new) (S.faults input.old) (S.faults input.new) }
-    ensures counted { Counted result (K.faults out.old) (K.faults out.new) (S.faults input.old) (S.faults input.new) }
-    ensures shelf_fault { result ≡ Status.ShelfFault → Rose (F.faults shelf.old) (F.faults shelf.new) }
+    ensures out_counted { Counted Status.SinkFault result (K.faults out.old) (K.faults out.new) }
+    ensures input_counted { Counted Status.SourceFault result (S.faults input.old) (S.faults input.new) }
+    ensures shelf_counted { Counted Status.ShelfFault result (F.faults shelf.old) (F.faults shelf.new) }
     ensures same { IsTrue (F.tells shelf.old) → SameFiles (F.files shelf.old) (F.files shelf.new) }
     ensures tells_on { F.tells shelf.new ≡ F.tells shelf.old }
 {
@@ -200,10 +198,11 @@ fn answer<S: Source, K: Sink, F: Shelf>(
     out: &mut K,
     shelf: &mut F,
 ) -> Status
-    ensures answered { WasAnswered (map string_bytes words.now) (F.tells shelf.old) (F.files shelf.old) (S.left input.old) result (K.held out.old) (K.held out.new) }
+    ensures answered { DidAnswer (map string_bytes words.now) (F.tells shelf.old) (F.files shelf.old) (S.left input.old) result (K.held out.old) (K.held out.new) }
     ensures left { Left result (S.left input.old) (S.left input.new) (S.faults input.old) (S.faults input.new) }
-    ensures counted { Counted result (K.faults out.old) (K.faults out.new) (S.faults input.old) (S.faults input.new) }
-    ensures shelf_fault { result ≡ Status.ShelfFault → Rose (F.faults shelf.old) (F.faults shelf.new) }
+    ensures out_counted { Counted Status.SinkFault result (K.faults out.old) (K.faults out.new) }
+    ensures input_counted { Counted Status.SourceFault result (S.faults input.old) (S.faults input.new) }
+    ensures shelf_counted { Counted Status.ShelfFault result (F.faults shelf.old) (F.faults shelf.new) }
     ensures same { IsTrue (F.tells shelf.old) → SameFiles (F.files shelf.old) (F.files shelf.new) }
     ensures tells_on { F.tells shelf.new ≡ F.tells shelf.old }
 {
@@ -218,6 +217,8 @@ fn answer<S: Source, K: Sink, F: Shelf>(
 /// Carries out the command that the words say, those after the program's name, and answers how it ended. The one file
 /// of `run` is read from the shelf; the conditions of its module are proved; then the input is read to its end, and the module's code is
 /// run on its numbers, for at most so many instructions as the words allow, which writes on `out`. `notes` gets the line of the status.
+/// What an answer says of a run is the clause `right`: at `Done` the text of the file is right, the run is over, and what it has written is
+/// what Main claims.
 pub fn resolve<S: Source, K: Sink, N: Sink, F: Shelf>(
     alloc: Global,
     words: &[String],
@@ -226,32 +227,23 @@ pub fn resolve<S: Source, K: Sink, N: Sink, F: Shelf>(
     notes: &mut N,
     shelf: &mut F,
 ) -> Status
-    // The status is the answer's, over the shelf's files and the source's input where these tell, and out got the answer's bytes; after a
-    // fault of the outside or want of memory it got a prefix of them.
-    ensures answered { WasAnswered (map string_bytes words.now) (F.tells shelf.old) (F.files shelf.old) (S.left input.old) result
+    // Over some files and some input, the shelf's and the source's where these tell: the status and the bytes are an answer's, or no
+    // answer is known yet and nothing is written, or an answer is cut and some first bytes of it are written.
+    ensures did { DidAnswer (map string_bytes words.now) (F.tells shelf.old) (F.files shelf.old) (S.left input.old) result
         (K.held out.old) (K.held out.new) }
-    // Where no count of faults rose, as over ends that never fail, the status is the answer's or memory ran out.
-    ensures complete { (Rose (K.faults out.old) (K.faults out.new) → ⊥) → (Rose (F.faults shelf.old) (F.faults shelf.new) → ⊥)
-        → (Rose (S.faults input.old) (S.faults input.new) → ⊥)
-        → Completes (map string_bytes words.now) (F.tells shelf.old) (F.files shelf.old) (S.left input.old) result (K.held out.old) (K.held out.new) }
-    // The headline, for runs that are over and for those that are not over after so many instructions.
-    ensures right { result ≡ Status.Done → IsDone (map string_bytes words.now) (F.tells shelf.old) (F.files shelf.old) (S.left input.old)
-        (K.held out.old) (K.held out.new) }
-    ensures spent { (steps : ℕ) → result ≡ Status.StepsSpent steps → RanRight (map string_bytes words.now) (F.tells shelf.old) (F.files shelf.old)
-        (S.left input.old) GoesOn steps (K.held out.old) (K.held out.new) }
-
+    // Every answer that is Done, or that the steps are spent, runs right: the headline.
+    ensures right { Headline }
+    // What is left of the input, and the counts of faults: none falls, and a fault is told only where its count rose.
     ensures left { Left result (S.left input.old) (S.left input.new) (S.faults input.old) (S.faults input.new) }
-    ensures counted { Counted result (K.faults out.old) (K.faults out.new) (S.faults input.old) (S.faults input.new) }
-    ensures shelf_fault { result ≡ Status.ShelfFault → Rose (F.faults shelf.old) (F.faults shelf.new) }
-
+    ensures out_counted { Counted Status.SinkFault result (K.faults out.old) (K.faults out.new) }
+    ensures input_counted { Counted Status.SourceFault result (S.faults input.old) (S.faults input.new) }
+    ensures shelf_counted { Counted Status.ShelfFault result (F.faults shelf.old) (F.faults shelf.new) }
+    // Notes got the line of the status, and no count of theirs fell. The files stay.
     ensures noted { Noted (N.held notes.old) (N.held notes.new) (N.faults notes.old) (N.faults notes.new) (note_of result) }
     ensures same_files { IsTrue (F.tells shelf.old) → SameFiles (F.files shelf.old) (F.files shelf.new) }
     ensures tells_on { F.tells shelf.new ≡ F.tells shelf.old }
 {
-    proved_is_valid();
-    conditions_are_sound();
-    modules_are_formed();
-    code_simulates();
+    headline();
     let status = answer(alloc, words, input, out, shelf);
     write_note(notes, &status);
     status

@@ -1,4 +1,4 @@
-use Rattle.std.proofs.Common.{subst, sym, ◌++◌, ◌∷◌, []}
+use Rattle.std.proofs.Common.{subst, sym}
 use Rattle.resolve_cli.specs.declared.status.Status.TheVariants as status
 use Rattle.resolve_cli.specs.Resolves.{Noted}
 use Rattle.resolve_cli.specs.Texts.{note_of}

@@ -1,17 +1,17 @@
-use Rattle.std.proofs.Common.{◌≡◌, ◌∙◌, sym, ap, refl, subst, [], inl, inr}
+use Rattle.std.proofs.Common.{refl, inr}
 use Rattle.stack_machine.specs.declared.image.Image.{Image}
 use Rattle.main_vcs.specs.Linking.{main_of}
 use Rattle.resolve_cli.specs.declared.status.Status.TheVariants as status
 use Rattle.resolve_cli.specs.Answer as stage
-use Rattle.resolve_cli.specs.Answer.{ModuleAnswer, image_of}
+use Rattle.resolve_cli.specs.Answer.{ModuleAnswer}
 use Rattle.resolve_cli.proofs.Right.{RunLaws, built, has_main, image_goes_on, same_image}
-use Rattle.resolve_cli.proofs.Stages.{nothing_cut, nothing_written}
+use Rattle.resolve_cli.proofs.Stages.{nothing_known, nothing_written}
 use Rattle.resolve_cli.proofs.running.run_accepted.Goals as goal
 
 pub returns-in_default-clause-answered : goal.returns-in_default-clause-answered
 returns-in_default-clause-answered g c =
     let held = g.K.Sink.held c.args.out.now in
-    nothing_cut (ModuleAnswer c.args.m.now c.args.steps) (g.S.Source.left c.args.input.now) status.NoMemory held (inr refl) (c.unchanged.ensures held)
+    nothing_known (ModuleAnswer c.args.m.now c.args.steps) (g.S.Source.left c.args.input.now) status.NoMemory held (inr (inr refl)) (c.unchanged.ensures held)
 
 pub run_on_input-requires-clause-main : goal.run_on_input-requires-clause-main
 run_on_input-requires-clause-main g c = has_main c.args.m.now c.in-Ok-compile.image (same_image c.args.m.now c.in-Ok.linked c.in-Ok.ensures.link c.in-Ok-compile.image (c.in-Ok-compile.ensures.code (main_of c.args.m.now) c.in-Ok.ensures.formed))
@@ -39,4 +39,4 @@ returns-in-Err-CodeTooLong-clause-answered g c =
 pub returns-clause-answered : goal.returns-clause-answered
 returns-clause-answered g c =
     let held = g.K.Sink.held c.args.out.now in
-    nothing_cut (ModuleAnswer c.args.m.now c.args.steps) (g.S.Source.left c.args.input.now) status.NoMemory held (inr refl) (c.unchanged.ensures held)
+    nothing_known (ModuleAnswer c.args.m.now c.args.steps) (g.S.Source.left c.args.input.now) status.NoMemory held (inr (inr refl)) (c.unchanged.ensures held)

@@ -1,4 +1,6 @@
-use Rattle.std.proofs.Common.{subst, sym, ap}
+use Rattle.std.proofs.Common.{subst, arith}
+use Rattle.std.specs.Prelude.{IsSome}
+use Rattle.stack_machine.specs.Machine.{after}
 use Rattle.stack_machine.specs.Runs.{Stopped}
 use Rattle.stack_machine.specs.declared.image.Stop.TheVariants as stop
 use Rattle.resolve_cli.proofs.Ran.{halted_answered, spent_answered, fault_answered, memory_answered}
@@ -26,4 +28,4 @@ pub returns-in-NoMemory-clause-answered : goal.returns-in-NoMemory-clause-answer
 returns-in-NoMemory-clause-answered g c =
     let old = g.K.Sink.held c.args.out.now in
     let new = g.K.Sink.held c.run.new.out in
-    λ m is. memory_answered m c.args.numbers.now c.args.steps c.output_grows.ensures old new (subst (λ i. Stopped i c.args.numbers.now c.args.steps stop.NoMemory old new) is c.in-NoMemory.ensures.stopped)
+    λ m is. memory_answered m c.args.numbers.now c.args.steps c.output_grows.ensures (subst (λ i. IsSome (after i c.args.numbers.now c.args.steps)) is (c.requires.never_stuck c.args.steps (omega arith))) old new (subst (λ i. Stopped i c.args.numbers.now c.args.steps stop.NoMemory old new) is c.in-NoMemory.ensures.stopped)

@@ -1,10 +1,10 @@
-use Rattle.std.proofs.Common.{◌≡◌, ◌∙◌, sym, ap, refl, subst, inr}
+use Rattle.std.proofs.Common.{◌≡◌, refl, subst, inr}
 use Rattle.std.specs.Prelude.{IfOk}
 use Rattle.resolve_cli.specs.declared.status.Status.TheVariants as status
 use Rattle.resolve_cli.specs.Answer as stage
 use Rattle.resolve_cli.specs.Answer.{ModuleAnswer}
 use Rattle.resolve_cli.specs.Texts.{unproved_line}
-use Rattle.resolve_cli.proofs.Stages.{nothing_cut, refused_answered}
+use Rattle.resolve_cli.proofs.Stages.{nothing_known, refused_answered}
 use Rattle.resolve_cli.proofs.running.run_module.Goals as goal
 
 pub returns-in-Ok-Some-clause-answered : goal.returns-in-Ok-Some-clause-answered
@@ -18,4 +18,4 @@ returns-in-Ok-Some-clause-answered g c =
 pub returns-in-Err-clause-answered : goal.returns-in-Err-clause-answered
 returns-in-Err-clause-answered g c =
     let held = g.K.Sink.held c.args.out.now in
-    nothing_cut (ModuleAnswer c.args.m.now c.args.steps) (g.S.Source.left c.args.input.now) status.NoMemory held (inr refl) (c.unchanged.ensures held)
+    nothing_known (ModuleAnswer c.args.m.now c.args.steps) (g.S.Source.left c.args.input.now) status.NoMemory held (inr (inr refl)) (c.unchanged.ensures held)

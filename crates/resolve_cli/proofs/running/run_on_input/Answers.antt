@@ -1,5 +1,5 @@
-use Rattle.std.proofs.Common.{◌≡◌, ◌∙◌, sym, ap, refl, subst, ◌≤◌, [], length, rules}
-use Rattle.std.specs.Prelude.{IsSome, Ok}
+use Rattle.std.proofs.Common.{◌≡◌, ap, refl, [], rules}
+use Rattle.std.specs.Prelude.{Ok}
 use Rattle.edge_io.specs.Numbers.{reading}
 use Rattle.edge_io.specs.declared.numbers.InputError.TheVariants as error
 use Rattle.resolve_cli.specs.declared.status.Status.TheVariants as status
@@ -7,7 +7,7 @@ use Rattle.resolve_cli.specs.Answer as stage
 use Rattle.resolve_cli.specs.Answer.{ModuleAnswer, RunAnswer}
 use Rattle.resolve_cli.specs.Resolves.{answer}
 use Rattle.resolve_cli.proofs.Inputs.{is_input}
-use Rattle.resolve_cli.proofs.Stages.{module_ran, same_answered}
+use Rattle.resolve_cli.proofs.Stages.{answered_within}
 use Rattle.resolve_cli.proofs.running.run_on_input.Goals as goal
 
 pub run_image-requires-clause-never_stuck : goal.run_image-requires-clause-never_stuck
@@ -22,7 +22,7 @@ returns-in-Ok-clause-answered g c =
     let numbers = c.as_slice.result.now in
     let text = c.in-Ok.ensures.reading in
     let reads : reading text.0 ≡ Ok numbers = search rules in
-    (text.0, text.1, λ m is built. same_answered (RunAnswer m numbers c.args.steps) (ModuleAnswer m c.args.steps text.0) (module_ran c.none_first.ensures m c.args.steps text.0 numbers built reads) c.run_image.result (g.K.Sink.held c.args.out.now) (g.K.Sink.held c.run_image.new.out) (c.run_image.ensures.answered m is))
+    (text.0, text.1, λ m is built. answered_within (RunAnswer m numbers c.args.steps) (ModuleAnswer m c.args.steps text.0) (λ s out a. stage.ran built numbers reads a) c.run_image.result (g.K.Sink.held c.args.out.now) (g.K.Sink.held c.run_image.new.out) (c.run_image.ensures.answered m is))
 
 pub returns-in-Err-TooLong-clause-answered : goal.returns-in-Err-TooLong-clause-answered
 returns-in-Err-TooLong-clause-answered g c =

@@ -1,16 +1,16 @@
-use Rattle.std.proofs.Common.{◌≡◌, ◌∙◌, sym, ap, refl, subst, inr, rules}
+use Rattle.std.proofs.Common.{◌≡◌, refl, subst, inr, rules}
 use Rattle.std.specs.Prelude.{IfOk}
 use Rattle.res_lexer.specs.declared.token.LexError.TheVariants as lex
 use Rattle.resolve_cli.specs.declared.status.Status.TheVariants as status
 use Rattle.resolve_cli.specs.Answer as stage
 use Rattle.resolve_cli.specs.Answer.{TextAnswer}
 use Rattle.resolve_cli.specs.Texts.{lex_line}
-use Rattle.resolve_cli.proofs.Stages.{nothing_cut, refused_answered, refuses_lex}
+use Rattle.resolve_cli.proofs.Stages.{nothing_known, refused_answered, refuses_lex}
 use Rattle.resolve_cli.proofs.top.refuse_text.Goals as goal
 
 pub returns-then-is_no_memory-clause-answered : goal.returns-then-is_no_memory-clause-answered
 returns-then-is_no_memory-clause-answered c =
-    λ bytes steps left held refuses. nothing_cut (TextAnswer c.args.file.now bytes steps) left status.NoMemory held (inr refl) (c.unchanged.ensures held)
+    λ bytes steps left held refuses. nothing_known (TextAnswer c.args.file.now bytes steps) left status.NoMemory held (inr (inr refl)) (c.unchanged.ensures held)
 
 pub returns-else-is_no_memory-clause-answered : goal.returns-else-is_no_memory-clause-answered
 returns-else-is_no_memory-clause-answered c =

@@ -1,9 +1,9 @@
-use Rattle.std.proofs.Common.{◌≡◌, ◌≤◌, ◌<◌, refl, sym, subst, length, arith, rules}
+use Rattle.std.proofs.Common.{◌≡◌, ◌≤◌, ◌<◌, refl, subst, length, rules}
 use Rattle.std.specs.Prelude.{IfOk}
 use Rattle.resolve_cli.specs.declared.status.Status.TheVariants as status
 use Rattle.resolve_cli.specs.Answer as stage
 use Rattle.resolve_cli.specs.Answer.{FileAnswer, TextAnswer, most_component_bytes}
-use Rattle.resolve_cli.proofs.Stages.{file_short, named_answered, some_same}
+use Rattle.resolve_cli.proofs.Stages.{named_answered, some_within}
 use Rattle.resolve_cli.proofs.top.run_bytes.Goals as goal
 
 pub returns-then-bytes-most_component_bytes-clause-answered : goal.returns-then-bytes-most_component_bytes-clause-answered
@@ -19,4 +19,4 @@ returns-else-bytes-most_component_bytes-clause-answered g c =
     let name = c.args.file.now in
     let bytes = c.args.bytes.now in
     let few : length bytes ≤ most_component_bytes = search rules in
-    some_same (TextAnswer name bytes c.args.steps) (FileAnswer name bytes c.args.steps) (λ input. file_short name bytes c.args.steps input few) (g.S.Source.left c.args.input.now) c.run_text.result (g.K.Sink.held c.args.out.now) (g.K.Sink.held c.run_text.new.out) c.run_text.ensures.answered
+    some_within (TextAnswer name bytes c.args.steps) (FileAnswer name bytes c.args.steps) (λ input s out a. stage.short few a) (g.S.Source.left c.args.input.now) c.run_text.result (g.K.Sink.held c.args.out.now) (g.K.Sink.held c.run_text.new.out) c.run_text.ensures.answered

@@ -1,12 +1,13 @@
-use Rattle.std.proofs.Common.{◌≡◌, ◌≤◌, refl, sym, ap, subst, length, arith, rules, inl, inr}
+use Rattle.std.proofs.Common.{◌≡◌, refl, subst, rules, inl, inr}
 use Rattle.std.specs.Prelude.{IfOk, IsTrue, Some, None}
 use Rattle.resolve_cli.specs.declared.status.Status.TheVariants as status
 use Rattle.resolve_cli.specs.Answer.{FileAnswer}
 use Rattle.resolve_cli.proofs.Stages.{NotThere, named_answered, shelf_too_long, words_answered, words_missing, words_run, words_unread}
 use Rattle.resolve_cli.proofs.top.run_file.Goals as goal
 
-pub returns-in-Ok-clause-shelf_fault : goal.returns-in-Ok-clause-shelf_fault
-returns-in-Ok-clause-shelf_fault g c = λ e. absurd (c.run_bytes.ensures.no_shelf e)
+pub returns-in-Ok-clause-shelf_counted : goal.returns-in-Ok-clause-shelf_counted
+returns-in-Ok-clause-shelf_counted g c =
+    record { never_falls = c.read.ensures.never_falls; told = λ e. absurd (c.run_bytes.ensures.no_shelf e) }
 
 pub returns-in-Ok-clause-answered : goal.returns-in-Ok-clause-answered
 returns-in-Ok-clause-answered g c =
@@ -38,7 +39,7 @@ pub returns-in-Err-Failed-clause-answered : goal.returns-in-Err-Failed-clause-an
 returns-in-Err-Failed-clause-answered g c =
     let shelf = c.args.shelf.now in
     let held = g.K.Sink.held c.args.out.now in
-    λ words says. words_unread words (g.F.Shelf.tells shelf) (g.F.Shelf.files shelf) (g.S.Source.left c.args.input.now) status.ShelfFault held (c.unchanged.ensures held) (inl (inl refl))
+    λ words says. words_unread words (g.F.Shelf.tells shelf) (g.F.Shelf.files shelf) (g.S.Source.left c.args.input.now) status.ShelfFault held (c.unchanged.ensures held) (inl refl)
 
 pub returns-clause-answered : goal.returns-clause-answered
 returns-clause-answered g c =

@@ -1,22 +1,21 @@
-use Rattle.std.proofs.Common.{◌≡◌, ◌∙◌, sym, ap, refl, subst, inr, ℕ, List, length}
-use Rattle.std.specs.Prelude.{IfOk, slice_get}
+use Rattle.std.proofs.Common.{◌≡◌, refl, subst, inr}
+use Rattle.std.specs.Prelude.{IfOk}
 use Rattle.main_form.specs.declared.module.Module.{Module}
-use Rattle.main_form.specs.Spelling.{IsNotYet, Spells, place_or}
+use Rattle.main_form.specs.Spelling.{IsNotYet, Spells}
 use Rattle.resolve_cli.specs.declared.status.Status.TheVariants as status
 use Rattle.resolve_cli.specs.Answer as stage
 use Rattle.resolve_cli.specs.Answer.{ModuleAnswer, TextAnswer}
 use Rattle.resolve_cli.specs.Texts.{not_yet_line}
-use Rattle.resolve_cli.proofs.Stages.{TextLaws, nothing_cut, refused_answered, some_same, text_spelled}
+use Rattle.resolve_cli.proofs.Stages.{nothing_known, refused_answered, some_within}
 use Rattle.resolve_cli.proofs.top.run_tokens.Goals as goal
 
 pub returns-in-Ok-clause-answered : goal.returns-in-Ok-clause-answered
 returns-in-Ok-clause-answered g c =
-    let laws : TextLaws = record { one_reading = c.one_reading.ensures; read_or_refused = c.read_or_refused.ensures; one_module = c.one_module.ensures; no_module_refused = c.no_module_refused.ensures } in
     let name = c.args.file.now in
     let bytes = c.args.bytes.now in
     let m : Module = c.in-Ok.read in
     let spells : Spells bytes m = (c.args.tokens.now, c.requires.are, c.in-Ok.ensures.read) in
-    some_same (ModuleAnswer m c.args.steps) (TextAnswer name bytes c.args.steps) (λ input. text_spelled laws name bytes c.args.steps input m spells) (g.S.Source.left c.args.input.now) c.run_module.result (g.K.Sink.held c.args.out.now) (g.K.Sink.held c.run_module.new.out) c.run_module.ensures.answered
+    some_within (ModuleAnswer m c.args.steps) (TextAnswer name bytes c.args.steps) (λ input s out a. stage.spelled m spells a) (g.S.Source.left c.args.input.now) c.run_module.result (g.K.Sink.held c.args.out.now) (g.K.Sink.held c.run_module.new.out) c.run_module.ensures.answered
 
 pub returns-in-Err-NotYet-clause-answered : goal.returns-in-Err-NotYet-clause-answered
 returns-in-Err-NotYet-clause-answered g c =
@@ -33,4 +32,4 @@ returns-in-Err-NotYet-clause-answered g c =
 pub returns-in-Err-NoMemory-clause-answered : goal.returns-in-Err-NoMemory-clause-answered
 returns-in-Err-NoMemory-clause-answered g c =
     let held = g.K.Sink.held c.args.out.now in
-    nothing_cut (TextAnswer c.args.file.now c.args.bytes.now c.args.steps) (g.S.Source.left c.args.input.now) status.NoMemory held (inr refl) (c.unchanged.ensures held)
+    nothing_known (TextAnswer c.args.file.now c.args.bytes.now c.args.steps) (g.S.Source.left c.args.input.now) status.NoMemory held (inr (inr refl)) (c.unchanged.ensures held)

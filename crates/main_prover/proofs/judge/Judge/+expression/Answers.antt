@@ -3,8 +3,8 @@ use Rattle.std.specs.Prelude.{slice_index_or}
 use Rattle.main_vcs.specs.Terms.{num, sub, add, len, bounds}
 use Rattle.main_vcs.specs.Walk.{number_of, with_hyps}
 use Rattle.main_form.specs.declared.module.Expr.TheVariants as ex
-use Rattle.main_prover.specs.Points.{point_of}
-use Rattle.main_prover.specs.Making.{expr_made}
+use Rattle.main_prover.specs.working.Points.{point_of}
+use Rattle.main_prover.specs.working.Making.{expr_made}
 use Rattle.main_prover.proofs.Going.{stop_makes, begun_stops, still_leaf_makes, leaf_makes, one_sum, two_sum}
 use Rattle.main_prover.proofs.Parts.{made_number, made_variable, made_remaining, made_minus, made_add, made_sub, add_begins, sub_begins}
 use Rattle.main_prover.proofs.judge.Judge.+expression.Goals as goal

@@ -2,8 +2,8 @@ use Rattle.std.proofs.Common.{◌∙◌, ap, sym}
 use Rattle.main_vcs.specs.Terms.{both, either, negated}
 use Rattle.main_vcs.specs.Walk.{compared}
 use Rattle.main_form.specs.declared.module.Guard.TheVariants as gd
-use Rattle.main_prover.specs.Points.{point_of}
-use Rattle.main_prover.specs.Making.{expr_made, guard_made}
+use Rattle.main_prover.specs.working.Points.{point_of}
+use Rattle.main_prover.specs.working.Making.{expr_made, guard_made}
 use Rattle.main_prover.proofs.Going.{stop_makes, begun_stops, one_term, two_terms}
 use Rattle.main_prover.proofs.Parts.{made_compare, made_not, made_and, made_or, compare_begins, and_begins, or_begins}
 use Rattle.main_prover.proofs.judge.Judge.+guard.Goals as goal

@@ -5,9 +5,9 @@ use Rattle.vc_sequents.specs.declared.sequent.VcKind.TheVariants as kinds
 use Rattle.main_form.specs.Spelling.{stmt_count}
 use Rattle.main_vcs.specs.Terms.{negated}
 use Rattle.main_vcs.specs.Walk.{names_of, stmt, conditions, after_read, with_hyps}
-use Rattle.main_prover.specs.Making.{condition_at, expr_made, guard_made, left_over}
-use Rattle.main_prover.specs.Points.{point_of, assigned, written}
-use Rattle.main_prover.specs.Remaining.{readable, or_no_stmts, weights}
+use Rattle.main_prover.specs.working.Making.{condition_at, expr_made, guard_made, left_over}
+use Rattle.main_prover.specs.working.Points.{point_of, assigned, written}
+use Rattle.main_prover.specs.working.Remaining.{readable, or_no_stmts, weights}
 use Rattle.main_prover.proofs.Going.{memory_stops, memory_judges}
 use Rattle.main_prover.proofs.Stepping.{lists_pop, now_same, sum_first, paths_judge, paths_stop, step_read, step_write, step_assign, step_if, weights_push, after_done, begins_stop, if_judges, empty_last, full_last}
 use Rattle.main_prover.proofs.judge.Judge.+walk.Goals as goal

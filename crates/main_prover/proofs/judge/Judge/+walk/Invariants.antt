@@ -1,7 +1,7 @@
 use Rattle.std.proofs.Common.{ℕ, ◌+◌, ◌*◌, map}
 use Rattle.std.specs.Prelude.{sum}
 use Rattle.main_form.specs.Spelling.{stmt_count}
-use Rattle.main_prover.specs.Remaining.{weights}
+use Rattle.main_prover.specs.working.Remaining.{weights}
 use Rattle.main_prover.proofs.judge.Judge.+walk.Given as goal
 
 abbrev pub decreases-walk : goal.decreases-walk

@@ -1,4 +1,4 @@
-use Rattle.main_prover.specs.Points.{point_of}
+use Rattle.main_prover.specs.working.Points.{point_of}
 use Rattle.main_prover.proofs.Going.{memory_sum}
 use Rattle.main_prover.proofs.judge.Judge.in_range.Goals as goal
 

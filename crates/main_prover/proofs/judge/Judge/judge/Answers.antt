@@ -1,6 +1,6 @@
 use Rattle.std.proofs.Common.{refl}
-use Rattle.main_prover.specs.Making.{condition_at}
-use Rattle.main_prover.specs.Points.{point_of}
+use Rattle.main_prover.specs.working.Making.{condition_at}
+use Rattle.main_prover.specs.working.Points.{point_of}
 use Rattle.main_prover.proofs.Going.{memory_judges, collected_goes, proved_judges}
 use Rattle.main_prover.proofs.judge.Judge.judge.Goals as goal
 

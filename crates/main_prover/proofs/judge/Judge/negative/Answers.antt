@@ -1,6 +1,6 @@
 use Rattle.std.proofs.Common.{pos}
 use Rattle.main_vcs.specs.Terms.{num, sub}
-use Rattle.main_prover.specs.Points.{point_of}
+use Rattle.main_prover.specs.working.Points.{point_of}
 use Rattle.main_prover.proofs.Going.{after_ok, memory_sum}
 use Rattle.main_prover.proofs.judge.Judge.negative.Goals as goal
 

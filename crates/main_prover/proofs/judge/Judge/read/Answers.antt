@@ -1,8 +1,8 @@
 use Rattle.std.proofs.Common.{[], ◌∷◌}
 use Rattle.vc_sequents.specs.declared.sequent.VcKind.TheVariants as kinds
-use Rattle.main_prover.specs.Making.{condition_at}
-use Rattle.main_prover.specs.Points.{point_of}
-use Rattle.main_prover.specs.Remaining.{readable}
+use Rattle.main_prover.specs.working.Making.{condition_at}
+use Rattle.main_prover.specs.working.Points.{point_of}
+use Rattle.main_prover.specs.working.Remaining.{readable}
 use Rattle.main_prover.proofs.Going.{memory_stops_in}
 use Rattle.main_prover.proofs.judge.Judge.read.Goals as goal
 

@@ -1,5 +1,5 @@
 use Rattle.main_vcs.specs.Terms.{add}
-use Rattle.main_prover.specs.Points.{point_of}
+use Rattle.main_prover.specs.working.Points.{point_of}
 use Rattle.main_prover.proofs.Going.{after_ok, memory_sum}
 use Rattle.main_prover.proofs.judge.Judge.sum.Goals as goal
 

@@ -1,5 +1,5 @@
-use Rattle.main_prover.specs.Making.{expr_made}
-use Rattle.main_prover.specs.Points.{point_of}
+use Rattle.main_prover.specs.working.Making.{expr_made}
+use Rattle.main_prover.specs.working.Points.{point_of}
 use Rattle.main_prover.proofs.Going.{memory_stops_in}
 use Rattle.main_prover.proofs.judge.Judge.write.Goals as goal
 

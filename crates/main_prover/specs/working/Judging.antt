@@ -14,7 +14,7 @@ use Rattle.main_prover.specs.declared.judge.Purpose.{Purpose}
 use Rattle.main_prover.specs.declared.judge.Purpose.TheVariants.{Collect, Prove}
 use Rattle.main_prover.specs.declared.judge.Stop.{Stop}
 use Rattle.main_prover.specs.declared.judge.Stop.TheVariants as stop
-use Rattle.main_prover.specs.Making.{Made, condition_at}
+use Rattle.main_prover.specs.working.Making.{Made, condition_at}
 use Rattle.main_prover.specs.Proving.{IsProved, sequent_of, vcs_from}
 
 -- the first of some conditions that does not count as proved
