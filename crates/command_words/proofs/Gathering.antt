@@ -8,7 +8,7 @@ use Rattle.std.specs.Borrow.{Bor}
 use Rattle.std.specs.Prelude.{codes, if◌then◌else◌, ◌&&◌, ◌||◌, not}
 use Rattle.res_lexer.specs.Tokens.{same_bytes}
 use Rattle.command_words.specs.Words.{Word, is_among, all_differ, names_of, good_values, is_good_value, with_option, with_further, is_value, gathered, Piece, piece_of, with_piece}
-use Rattle.command_words.specs.Reading.{option_word, has_option, AreOptions, AddsOption, IsFirst, IsLimit, IsSummary, prepended, waiting_word, IsState}
+use Rattle.command_words.specs.working.Reading.{option_word, has_option, AreOptions, AddsOption, IsFirst, IsLimit, IsSummary, prepended, waiting_word, IsState}
 use Rattle.command_words.specs.declared.words.State.{State}
 use Rattle.command_words.specs.declared.words.Options.{Options}
 use Rattle.command_words.specs.declared.words.Summary.{Summary}

@@ -6,7 +6,7 @@ ghost use Rattle.std.specs.Str.Parse.{digits_value};
 ghost use Rattle.res_lexer.specs.Tokens.{is_digit, same_bytes};
 ghost use Rattle.command_words.specs.Words as spec;
 ghost use Rattle.command_words.specs.Words.{Word, good_values};
-ghost use Rattle.command_words.specs.Reading.{IsLimit, verb_word, option_word, options_for, has_option, AddsOption, IsPiece, IsSummary, IsState, StepsTo, Gathers, Says, IsCommand};
+ghost use Rattle.command_words.specs.working.Reading.{IsLimit, verb_word, option_word, options_for, has_option, AddsOption, IsPiece, IsSummary, IsState, StepsTo, Gathers, Says, IsCommand};
 
 const MOST_FILES: usize = 256;
 
@@ -530,82 +530,5 @@ pub fn read_command(words: &[String]) -> Option<Command<'_>>
         Some(command_of(verb, summary))
     } else {
         None
-    }
-}
-
-#[cfg(test)]
-mod tests {
-    use super::*;
-    use std::alloc::{AllocError, Global};
-
-    fn ran(file: &str, steps: u64) -> &'static str {
-        match (file, steps) {
-            ("a", 100000000) => "run a",
-            ("a", 5) => "run a for 5",
-            ("a", _) => "run a for another number",
-            _ => "run another",
-        }
-    }
-
-    // What the words of a line say.
-    fn said(alloc: Global, line: &str) -> Result<&'static str, AllocError> {
-        let mut words = Vec::new(alloc);
-        for word in line.split_whitespace() {
-            words.push(String::from_str(alloc, word)?)?;
-        }
-        match read_command(&words) {
-            None => Ok("nothing"),
-            Some(Command::Other) => Ok("other"),
-            Some(Command::Run { file, steps }) => Ok(ran(file, steps)),
-        }
-    }
-
-    #[test]
-    fn commands_are_read(rt: HostRuntime) -> Result<(), AllocError> {
-        for (line, want) in [
-            ("run a", "run a"),
-            ("run b", "run another"),
-            ("run --steps 5 a", "run a for 5"),
-            ("run a --steps=5", "run a for 5"),
-            ("run --steps 5 --choice b a", "other"),
-            ("run a b", "other"),
-            ("run a --choice=b", "other"),
-            ("verify a", "other"),
-            ("vcs a", "other"),
-            ("gen 1", "other"),
-            ("gen 64", "other"),
-            ("run --steps 999999999999 a", "run a for another number"),
-            ("code --certs c a --choice=x=y", "other"),
-        ] {
-            assert_eq!(rt; said(rt.alloc(), line)?, want, "at {line}");
-        }
-        Ok(())
-    }
-
-    #[test]
-    fn other_words_say_nothing(rt: HostRuntime) -> Result<(), AllocError> {
-        for line in [
-            "",
-            "fly a",
-            "run",
-            "run --steps 0 a",
-            "run --steps 01 a",
-            "run --steps=1=2 a",
-            "run --steps 1000000000000 a",
-            "run --steps 5 --steps 6 a",
-            "run a --steps",
-            "run --choice= a",
-            "run --choice -b a",
-            "run -- a",
-            "run -a",
-            "run --help",
-            "vcs --choice b a",
-            "gen 0",
-            "gen 65",
-            "gen 1 2",
-        ] {
-            assert_eq!(rt; said(rt.alloc(), line)?, "nothing", "at {line}");
-        }
-        Ok(())
     }
 }

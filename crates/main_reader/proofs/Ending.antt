@@ -8,7 +8,7 @@ use Rattle.main_form.specs.declared.module.Group.{Group}
 use Rattle.main_form.specs.Spelling.{Shown, Shows, word, listed, group_tokens, groups_tokens, declared, claim_tokens, here, colon, semicolon}
 use Rattle.main_reader.specs.States.{Base, names, Goal, to_name, to_groups, to_body, State, at}
 use Rattle.main_reader.specs.Steps.{next, run, start, Outcome, stopped, at_end, scan, to_procedure}
-use Rattle.main_reader.specs.Variables.{groups_in}
+use Rattle.main_reader.specs.working.Variables.{groups_in}
 use Rattle.std.specs.Prelude.{Bool, true, ◌==◌, IfOk, IfErr, MatchResult, Result, Ok, Err}
 use Rattle.main_form.specs.declared.module.Module.{Module}
 use Rattle.main_form.specs.Spelling.{IsModule, IsRefusedAt, kinds_in}

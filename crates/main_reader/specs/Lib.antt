@@ -3,4 +3,4 @@ pub mod Marks
 pub mod Progress
 pub mod States
 pub mod Steps
-pub mod Variables
+pub mod working

@@ -16,7 +16,7 @@ use crate::stack::Stack;
 use crate::state::{Block, Left, Level, Open, Pending, Spot, Use};
 use crate::{filling, trees};
 use main_form::{Expr, Guard, Stmt};
-use math_terms::{Items, NoMemory};
+use math_terms::{Items, NoMemory, with};
 use std::alloc::Global;
 
 // Within the body, once these have come.
@@ -750,14 +750,4 @@ fn refused<T: Drop>(state: T) -> Result<Option<Progress>, NoMemory>
 {
     drop(state);
     Ok(None)
-}
-
-/// The first value and the second, where memory sufficed for the first.
-fn with<T: Drop, U: Drop>(a: Result<T, NoMemory>, b: U) -> Result<(T, U), NoMemory>
-    ensures { IfOk result (λ p. (a ≡ Ok p.0) × (p.1 ≡ b)) }
-{
-    match a {
-        Ok(a) => Ok((a, b)),
-        Err(e) => Err(e),
-    }
 }

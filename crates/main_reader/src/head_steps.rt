@@ -17,7 +17,7 @@ use crate::progress::{
 use crate::words::{free_word, is_symbol, is_word, same_name};
 use main_form::{Claim, Group, Literal};
 use math_terms::{Items, Name, NoMemory};
-use res_lexer::TokenKind;
+use res_lexer::{TokenKind, symbol};
 use std::alloc::Global;
 
 // The most operands of the claim.
@@ -112,7 +112,7 @@ pub fn chain(alloc: Global, heads: Heads, kind: &TokenKind) -> Option<Progress>
             wanted: TO_PROCEDURE,
             goal: groups_after(alloc, heads, Claim::Chain(Items::new(alloc))),
         })
-    } else if is_symbol(kind, 6) {
+    } else if is_symbol(kind, symbol::LESS) {
         Some(Progress {
             wanted: NOTHING,
             goal: Goal::ToNumber(false, heads, Items::new(alloc)),
@@ -187,7 +187,7 @@ pub fn more(
             wanted: NOTHING,
             goal: Goal::ToAgain(heads, operands),
         })
-    } else if is_symbol(kind, 15) {
+    } else if is_symbol(kind, symbol::SEMICOLON) {
         Some(Progress {
             wanted: PROCEDURE,
             goal: groups_after(alloc, heads, Claim::Chain(operands)),
@@ -201,7 +201,7 @@ pub fn again(heads: Heads, operands: Items<Literal>, kind: &TokenKind) -> Option
     ensures { IsStep (again_next heads operands kind.now) result }
 {
     if operands.len() < MOST {
-        if is_symbol(kind, 6) {
+        if is_symbol(kind, symbol::LESS) {
             Some(Progress {
                 wanted: NOTHING,
                 goal: Goal::ToNumber(false, heads, operands),
@@ -307,12 +307,12 @@ pub fn listed(
 ) -> Result<Option<Progress>, NoMemory>
     ensures { IfOk result (IsStep (listed_next base names kind.now)) }
 {
-    if is_symbol(kind, 14) {
+    if is_symbol(kind, symbol::COMMA) {
         Ok(Some(Progress {
             wanted: NOTHING,
             goal: Goal::ToVariable(base, names),
         }))
-    } else if is_symbol(kind, 16) {
+    } else if is_symbol(kind, symbol::COLON) {
         group_ends(base, names)
     } else {
         Ok(None)

@@ -6,7 +6,7 @@ ghost use Rattle.main_reader.specs.Laws.{IsReadRefusal};
 ghost use Rattle.main_reader.specs.States.{module_of, at};
 ghost use Rattle.main_reader.specs.Steps.{next, goal_next, groups_next, at_end, accepted, stopped};
 ghost use Rattle.main_reader.specs.Progress.{IsStep, state_of, kinds_wanted};
-ghost use Rattle.main_reader.specs.Variables.{groups_in};
+ghost use Rattle.main_reader.specs.working.Variables.{groups_in};
 
 use crate::goal::{Base, Goal, Heads};
 use crate::progress::{Fixed, NOTHING, Progress, START};

@@ -1,9 +1,7 @@
 //! Words and symbols: which tokens they are, and what they mean within a body.
 
 ghost use Rattle.std.specs.Prelude.{◌≡◌, ◌↔◌, ◌+◌, ◌<◌, ◌^◌, length, pos, IsTrue, IfOk, MatchOption, None, Some, []};
-ghost use Rattle.std.specs.List.{list_any};
 ghost use Rattle.res_lexer.specs.Tokens.{same_bytes};
-ghost use Rattle.main_form.specs.Reserved.{is_reserved};
 ghost use Rattle.main_form.specs.Spelling.{declared};
 ghost use Rattle.main_reader.specs.Marks.{place_in, keyword, sign, mark_of};
 ghost use Rattle.main_reader.specs.States.{names};
@@ -15,107 +13,13 @@ use crate::mark::Mark;
 use crate::progress::Fixed;
 use main_form::{Comparison, Group};
 use math_terms::{Name, NoMemory};
-use res_lexer::TokenKind;
+use res_lexer::{TokenKind, is_reserved, symbol};
 use std::alloc::Global;
-
-static RESERVED: [&[u8]; 74] = [
-    b"Concept",
-    b"type",
-    b"evaluates",
-    b"Integer",
-    b"uses",
-    b"requires",
-    b"end",
-    b"Type",
-    b"Family",
-    b"is",
-    b"modeled",
-    b"by",
-    b"exemplar",
-    b"constraint",
-    b"initialization",
-    b"ensures",
-    b"Z",
-    b"B",
-    b"Str",
-    b"Cart_Prod",
-    b"Operation",
-    b"Boolean",
-    b"In_Stream",
-    b"Out_Stream",
-    b"alters",
-    b"clears",
-    b"preserves",
-    b"replaces",
-    b"restores",
-    b"updates",
-    b"Enhancement",
-    b"for",
-    b"Realization",
-    b"of",
-    b"Procedure",
-    b"Facility",
-    b"Static_Array_Template",
-    b"realized",
-    b"enhanced",
-    b"represented",
-    b"Record",
-    b"convention",
-    b"correspondence",
-    b"Conc",
-    b"decreasing",
-    b"Var",
-    b"If",
-    b"then",
-    b"else",
-    b"While",
-    b"changing",
-    b"maintaining",
-    b"do",
-    b"implies",
-    b"or",
-    b"and",
-    b"not",
-    b"o",
-    b"div",
-    b"mod",
-    b"true",
-    b"false",
-    b"min_int",
-    b"max_int",
-    b"Empty_String",
-    b"Reverse",
-    b"Prt_Btwn",
-    b"Is_Initial",
-    b"Read",
-    b"Write",
-    b"At_End",
-    b"Remaining",
-    b"Swap_Entry",
-    b"Static_Array",
-];
 
 fn equal(a: &[u8], b: &[u8]) -> bool
     ensures { IsTrue result ↔ (a.now ≡ b.now) }
 {
     a == b
-}
-
-fn is_one_of(name: &[u8], words: &[&[u8]]) -> bool
-    ensures { result ≡ list_any (λ w. same_bytes name.now w.now) words.now }
-{
-    for word in words {
-        if equal(name, *word) {
-            return true;
-        }
-    }
-    false
-}
-
-fn is_reserved(name: &[u8]) -> bool
-    ensures { result ≡ is_reserved name.now }
-{
-    is_one_of(name, &RESERVED)
 }
 
 /// Whether the token is this word.
@@ -195,14 +99,14 @@ pub fn is_fixed(kind: &TokenKind, fixed: Fixed, goal: &Goal) -> bool
         Fixed::Procedure => is_word(kind, b"Procedure"),
         Fixed::End => is_word(kind, b"end"),
         Fixed::Integer => is_word(kind, b"Integer"),
-        Fixed::Semicolon => is_symbol(kind, 15),
-        Fixed::Comma => is_symbol(kind, 14),
-        Fixed::Opening => is_symbol(kind, 12),
-        Fixed::Closing => is_symbol(kind, 13),
-        Fixed::Colon => is_symbol(kind, 16),
-        Fixed::Equals => is_symbol(kind, 8),
-        Fixed::Greater => is_symbol(kind, 7),
-        Fixed::Becomes => is_symbol(kind, 2),
+        Fixed::Semicolon => is_symbol(kind, symbol::SEMICOLON),
+        Fixed::Comma => is_symbol(kind, symbol::COMMA),
+        Fixed::Opening => is_symbol(kind, symbol::OPENING),
+        Fixed::Closing => is_symbol(kind, symbol::CLOSING),
+        Fixed::Colon => is_symbol(kind, symbol::COLON),
+        Fixed::Equals => is_symbol(kind, symbol::EQUAL),
+        Fixed::Greater => is_symbol(kind, symbol::GREATER),
+        Fixed::Becomes => is_symbol(kind, symbol::ASSIGN),
         Fixed::Name => is_name(kind, goal),
         Fixed::Input => is_input(kind, goal),
         Fixed::Output => is_output(kind, goal),

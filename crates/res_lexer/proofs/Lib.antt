@@ -1,6 +1,7 @@
-pub mod Lists
-pub mod Texts
-pub mod Readings
+pub mod Choices
 pub mod Digits
-pub mod Fronts
-pub mod Steps
+pub mod Lists
+pub mod Lying
+pub mod Readings
+pub mod Spacing
+pub mod Symbols

@@ -1,191 +1,180 @@
--- One text has one reading: the tokens up to where a reading stops are determined, and so is why it stops.
-use Rattle.std.proofs.Common.{◌≡◌, ℕ, ◌+◌, ◌<◌, true, false, List, [], ◌∷◌, ◌++◌, length, refl, sym, ap, ◌∙◌, subst, ⊎_elim, append-nil, length-append, arith}
-use Rattle.std.proofs.lemmas.Bool.{and_parts, true≢false}
-use Rattle.std.specs.List.{list_all}
-use Rattle.std.specs.Str.Parse.{digits_value}
+-- The reading of a text, piece by piece.
+use Rattle.std.proofs.Common.{◌≡◌, ℕ, zero, suc, ◌+◌, ◌-◌, ◌<◌, ◌≤◌, List, [], ◌∷◌, ◌++◌, length, drop, Result, Ok, Err, refl, sym, ap, ◌∙◌, ◌⊎◌, inl, inr, Vec, Global, IfOk, IfErr, MatchResult, ⊎_elim, subst, append_assoc, append-nil, length-drop, drop-drop, arith}
+use Rattle.std.proofs.lemmas.List.{at_drop_all}
 use Rattle.res_lexer.specs.declared.token.Token.{Token}
-use Rattle.res_lexer.specs.declared.token.TokenKind.{TokenKind}
 use Rattle.res_lexer.specs.declared.token.LexError.{LexError}
 use Rattle.res_lexer.specs.declared.token.LexError.TheVariants.{BadByte, OpenComment, LongName, BigLiteral, NoMemory}
-use Rattle.res_lexer.specs.Reading.{first_passes}
-use Rattle.res_lexer.specs.Tokens.{is_blank, is_token, is_word, is_literal, IsLongest, Means, IsNext, Begin, AreTokens, BeginsNothing, BeginsWith, Fault, Refuses}
-use Rattle.res_lexer.proofs.Lists.{cuts}
-use Rattle.res_lexer.proofs.Texts.{no_blank-token, no_token-nil, no_literal-word, same_kind, means_token, means-word, means-literal, word_is_token, literal_is_token}
+use Rattle.identifiers.specs.Laws.{Stands}
+use Rattle.res_lexer.specs.Pieces as piece
+use Rattle.res_lexer.specs.Pieces.{Piece, Gap, Breach, piece_at, piece_len}
+use Rattle.res_lexer.specs.Working.{IsBreach}
+use Rattle.res_lexer.proofs.Lying.{PieceLies, piece_lies}
+use Rattle.res_lexer.specs.Tokens.{before, reading, reading_from, with_token, AreTokens, Lie, Refuses, RefusesOrNoMemory}
 
--- a stretch that is a token begins with no blank, whatever follows
-no_blank_before : (text after : List ℕ) → is_token text ≡ true → first_passes is_blank (text ++ after) ≡ false
-no_blank_before [] after token = absurd (no_token-nil token)
-no_blank_before (b ∷ bs) after token = no_blank-token b bs token
+-- what is left of a piece is passed over
+pub passed : (place n : ℕ) (bytes : List ℕ) → n ≤ length bytes → reading_from place n bytes ≡ reading_from (place + n) 0 (drop n bytes)
+passed place zero bytes fits = let e : place ≡ place + 0 = omega arith in ap (λ p. reading_from p 0 bytes) e
+passed place (suc n) [] fits = absurd (omega (arith, fits))
+passed place (suc n) (b ∷ bs) fits =
+    let e : (place + 1) + n ≡ place + suc n = omega arith in
+    passed (place + 1) n bs (omega (arith, fits)) ∙ ap (λ p. reading_from p 0 (drop n bs)) e
 
--- the blanks before what is not blank are determined
-same_gap : (g h xs ys : List ℕ) → first_passes is_blank xs ≡ false → first_passes is_blank ys ≡ false → list_all is_blank g ≡ true → list_all is_blank h ≡ true → g ++ xs ≡ h ++ ys → (g ≡ h) × (xs ≡ ys)
-same_gap [] [] xs ys left_stops right_stops left_blank right_blank e = (refl, e)
-same_gap [] (c ∷ h) xs ys left_stops right_stops left_blank right_blank e =
-    absurd (true≢false (sym (and_parts (is_blank c) (list_all is_blank h) right_blank).0 ∙ (rw e at left_stops)))
-same_gap (c ∷ g) [] xs ys left_stops right_stops left_blank right_blank e =
-    absurd (true≢false (sym (and_parts (is_blank c) (list_all is_blank g) left_blank).0 ∙ (rw (sym e) at right_stops)))
-same_gap (c ∷ g) (d ∷ h) xs ys left_stops right_stops left_blank right_blank e =
-    let head : c ≡ d = cc in
-    let tail : g ++ xs ≡ h ++ ys = cc in
-    let rest = same_gap g h xs ys left_stops right_stops (and_parts (is_blank c) (list_all is_blank g) left_blank).1 (and_parts (is_blank d) (list_all is_blank h) right_blank).1 tail in
-    (cc, rest.1)
-
--- two tokens that are both the longest at one place are one
-same_text : (text after other_text end : List ℕ) → is_token text ≡ true → is_token other_text ≡ true → IsLongest text after → IsLongest other_text end → text ++ after ≡ other_text ++ end → (text ≡ other_text) × (after ≡ end)
-same_text text after other_text end token other_token longest other_longest e =
-    ⊎_elim
-    (λ l.
-    let none : l.0 ≡ [] = longest l.0 end l.2 (subst (λ u. is_token u ≡ true) l.1 other_token) in
-    (sym (l.1 ∙ ap (λ m. text ++ m) none ∙ append-nil text), l.2 ∙ ap (λ m. m ++ end) none))
-    (λ l.
-    let none : l.0 ≡ [] = other_longest l.0 after l.2 (subst (λ u. is_token u ≡ true) l.1 token) in
-    (l.1 ∙ ap (λ m. other_text ++ m) none ∙ append-nil other_text, sym (l.2 ∙ ap (λ m. m ++ after) none)))
-    (cuts text after other_text end e)
-
-record SameNext (t u : Token) (gap other_gap text other_text after end : List ℕ) : Type 0 where
-  same_token : t ≡ u
-  same_blanks : gap ≡ other_gap
-  same_stretch : text ≡ other_text
-  same_after : after ≡ end
-
-same_next : {place : ℕ} {bytes : List ℕ} {t u : Token} {gap other_gap text other_text after end : List ℕ} → IsNext place bytes t gap text after → IsNext place bytes u other_gap other_text end → SameNext t u gap other_gap text other_text after end
-same_next {place} {bytes} {t} {u} {gap} {other_gap} {text} {other_text} {after} {end} n m =
-    let token = means_token t.kind text n.means in
-    let other_token = means_token u.kind other_text m.means in
-    let starts = same_gap gap other_gap (text ++ after) (other_text ++ end) (no_blank_before text after token) (no_blank_before other_text end other_token) n.blanks m.blanks (sym n.whole ∙ m.whole) in
-    let texts = same_text text after other_text end token other_token n.longest m.longest starts.1 in
-    let kinds : t.kind ≡ u.kind = same_kind t.kind u.kind text n.means (subst (λ l. Means u.kind l) (sym texts.0) m.means) in
-    let ats : t.at ≡ u.at = n.at ∙ ap (λ g. place + length g) starts.0 ∙ sym m.at in
-    let lens : t.len ≡ u.len = n.len ∙ ap length texts.0 ∙ sym m.len in
-    record {
-      same_token = λ i. record { at = ats i; len = lens i; kind = kinds i };
-      same_blanks = starts.0;
-      same_stretch = texts.0;
-      same_after = texts.1;
-    }
-
--- where a reading stops: what is left begins with no blank, and with no token that can be read
-pub record IsStuck (rest : List ℕ) : Type 0 where
-  no_blank : first_passes is_blank rest ≡ false
-  no_token : (k : TokenKind) (text after : List ℕ) → rest ≡ text ++ after → Means k text → IsLongest text after → ⊥
-
-IsStuck-nil : IsStuck []
-IsStuck-nil = record { no_blank = refl; no_token = nothing }
+-- one piece, and then the text after it
+pub one_piece : (place : ℕ) (rest : List ℕ) (piece : Piece) → piece_at place rest ≡ piece → 0 < length rest → piece_len piece ≤ length rest → 0 < piece_len piece → reading_from place 0 rest ≡ before place piece (reading_from (place + piece_len piece) 0 (drop (piece_len piece) rest))
+one_piece place [] piece is some fits bytes = absurd (omega (arith, some))
+one_piece place (b ∷ bs) piece is some fits bytes =
+    ap (λ p. before place p (reading_from (place + 1) (piece_len p - 1) bs)) is ∙ ap (before place piece) (by_len (piece_len piece) fits bytes)
   where
-    nothing : (k : TokenKind) (text after : List ℕ) → [] ≡ text ++ after → Means k text → IsLongest text after → ⊥
-    nothing k [] after e means longest = no_token-nil (means_token k [] means)
-    nothing k (b ∷ bs) after e means longest = cc
+    by_len : (n : ℕ) → n ≤ length (b ∷ bs) → 0 < n → reading_from (place + 1) (n - 1) bs ≡ reading_from (place + n) 0 (drop n (b ∷ bs))
+    by_len zero fits bytes = absurd (omega (arith, bytes))
+    by_len (suc n) fits bytes =
+        let less : suc n - 1 ≡ n = omega arith in
+        let e : (place + 1) + n ≡ place + suc n = omega arith in
+        ap (λ m. reading_from (place + 1) m bs) less ∙ passed (place + 1) n bs (omega (arith, fits)) ∙ ap (λ p. reading_from p 0 (drop n bs)) e
 
-BeginsNothing-no_blank : (rest : List ℕ) → BeginsNothing rest → first_passes is_blank rest ≡ false
-BeginsNothing-no_blank [] nothing = refl
-BeginsNothing-no_blank (b ∷ bs) nothing = nothing.no_blank b bs refl
+pub one_breach : (place : ℕ) (rest : List ℕ) (e : LexError) → piece_at place rest ≡ Breach e → 0 < length rest → reading_from place 0 rest ≡ Err e
+one_breach place [] e is some = absurd (omega (arith, some))
+one_breach place (b ∷ bs) e is some = ap (λ p. before place p (reading_from (place + 1) (piece_len p - 1) bs)) is
 
-BeginsWith-no_blank : (rest text after : List ℕ) → BeginsWith rest text after → is_token text ≡ true → first_passes is_blank rest ≡ false
-BeginsWith-no_blank rest text after begins token = rw (begins.whole) (no_blank_before text after token)
+-- tokens before a reading
+abbrev pub with_tokens : List Token → Result (List Token) LexError → Result (List Token) LexError
+with_tokens ts (Ok us) = Ok (ts ++ us)
+with_tokens ts (Err e) = Err e
 
-IsStuck-fault : (e : LexError) (to : ℕ) (rest : List ℕ) → Fault e to rest → IsStuck rest
-IsStuck-fault (BadByte at) to rest fault = record {
-  no_blank = BeginsNothing-no_blank rest fault.1;
-  no_token = λ k text after cut means longest. true≢false (sym (means_token k text means) ∙ fault.1.no_token text after cut);
-}
-IsStuck-fault (OpenComment at) to rest fault = absurd fault
-IsStuck-fault (LongName at) to rest fault =
-    let text = fault.1 in
-    let after = fault.2 in
-    let begins = fault.3 in
-    let word = fault.4 in
-    record {
-      no_blank = BeginsWith-no_blank rest text after begins (word_is_token text word);
-      no_token = λ k other_text end cut means longest.
-          let same = same_text text after other_text end (word_is_token text word) (means_token k other_text means) begins.longest longest (sym begins.whole ∙ cut) in
-          omega (arith, means-word k other_text (subst (λ l. is_word l ≡ true) same.0 word) means, ap length same.0, fault.5);
-    }
-IsStuck-fault (BigLiteral at) to rest fault =
-    let text = fault.1 in
-    let after = fault.2 in
-    let begins = fault.3 in
-    let literal = fault.4 in
-    record {
-      no_blank = BeginsWith-no_blank rest text after begins (literal_is_token text literal);
-      no_token = λ k other_text end cut means longest.
-          let same = same_text text after other_text end (literal_is_token text literal) (means_token k other_text means) begins.longest longest (sym begins.whole ∙ cut) in
-          omega (arith, means-literal k other_text (subst (λ l. is_literal l ≡ true) same.0 literal) means, ap (λ l. digits_value 10 l) same.0, fault.5);
-    }
-IsStuck-fault NoMemory to rest fault = absurd fault
+none_before : (r : Result (List Token) LexError) → with_tokens [] r ≡ r
+none_before (Ok ts) = refl
+none_before (Err e) = refl
 
-record SameBegin (ts us : List Token) (to other_to : ℕ) (rest end : List ℕ) : Type 0 where
-  same_tokens : ts ≡ us
-  same_place : to ≡ other_to
-  same_rest : rest ≡ end
+one_more_before : (ts : List Token) (t : Token) (r : Result (List Token) LexError) → with_tokens ts (with_token t r) ≡ with_tokens (ts ++ t ∷ []) r
+one_more_before ts t (Ok us) = ap Ok (sym (append_assoc ts (t ∷ []) us))
+one_more_before ts t (Err e) = refl
 
--- two readings from one place that both stop are one
-same_begin : (ts us : List Token) (place : ℕ) (bytes rest end : List ℕ) (to other_to : ℕ) → IsStuck rest → IsStuck end → Begin place bytes ts to rest → Begin place bytes us other_to end → SameBegin ts us to other_to rest end
-same_begin [] [] place bytes rest end to other_to stuck other_stuck b c =
-    let same = same_gap b.0 c.0 rest end stuck.no_blank other_stuck.no_blank b.2 c.2 (sym b.1 ∙ c.1) in
-    record { same_tokens = refl; same_place = b.3 ∙ ap (λ g. place + length g) same.0 ∙ sym c.3; same_rest = same.1 }
-same_begin [] (u ∷ us) place bytes rest end to other_to stuck other_stuck b c =
-    let next = c.3 in
-    let same = same_gap b.0 c.0 rest (c.1 ++ c.2) stuck.no_blank (no_blank_before c.1 c.2 (means_token u.kind c.1 next.means)) b.2 next.blanks (sym b.1 ∙ next.whole) in
-    absurd (stuck.no_token u.kind c.1 c.2 same.1 next.means next.longest)
-same_begin (t ∷ ts) [] place bytes rest end to other_to stuck other_stuck b c =
-    let next = b.3 in
-    let same = same_gap c.0 b.0 end (b.1 ++ b.2) other_stuck.no_blank (no_blank_before b.1 b.2 (means_token t.kind b.1 next.means)) c.2 next.blanks (sym c.1 ∙ next.whole) in
-    absurd (other_stuck.no_token t.kind b.1 b.2 same.1 next.means next.longest)
-same_begin (t ∷ ts) (u ∷ us) place bytes rest end to other_to stuck other_stuck b c =
-    let same = same_next b.3 c.3 in
-    let at : place + length c.0 + length c.1 ≡ place + length b.0 + length b.1 = omega (arith, ap length same.same_blanks, ap length same.same_stretch) in
-    let P : ℕ → List ℕ → Type 0 = λ p l. Begin p l us other_to end in
-    let moved : Begin (place + length b.0 + length b.1) b.2 us other_to end = subst (λ p. P p b.2) at (subst (λ l. P (place + length c.0 + length c.1) l) (sym same.same_after) c.4) in
-    let later = same_begin ts us (place + length b.0 + length b.1) b.2 rest end to other_to stuck other_stuck b.4 moved in
-    record { same_tokens = λ i. same.same_token i ∷ later.same_tokens i; same_place = later.same_place; same_rest = later.same_rest }
+-- The text up to this place is these tokens, and blanks and comments.
+pub record HasRead (bytes : List ℕ) (ts : List Token) (at : ℕ) : Type 0 where
+  pub within : at ≤ length bytes
+  pub read : reading bytes ≡ with_tokens ts (reading_from at 0 (drop at bytes))
 
--- one place has one fault
-same_fault : (e f : LexError) (to : ℕ) (rest : List ℕ) → Fault e to rest → Fault f to rest → e ≡ f
-same_fault (BadByte at) (BadByte bt) to rest h g = ap BadByte (h.0 ∙ sym g.0)
-same_fault (BadByte at) (OpenComment bt) to rest h g = absurd g
-same_fault (BadByte at) (LongName bt) to rest h g = absurd (true≢false (sym (word_is_token g.1 g.4) ∙ h.1.no_token g.1 g.2 g.3.whole))
-same_fault (BadByte at) (BigLiteral bt) to rest h g = absurd (true≢false (sym (literal_is_token g.1 g.4) ∙ h.1.no_token g.1 g.2 g.3.whole))
-same_fault (BadByte at) NoMemory to rest h g = absurd g
-same_fault (OpenComment at) f to rest h g = absurd h
-same_fault (LongName at) (BadByte bt) to rest h g = absurd (true≢false (sym (word_is_token h.1 h.4) ∙ g.1.no_token h.1 h.2 h.3.whole))
-same_fault (LongName at) (OpenComment bt) to rest h g = absurd g
-same_fault (LongName at) (LongName bt) to rest h g = ap LongName (h.0 ∙ sym g.0)
-same_fault (LongName at) (BigLiteral bt) to rest h g =
-    let same = same_text h.1 h.2 g.1 g.2 (word_is_token h.1 h.4) (literal_is_token g.1 g.4) h.3.longest g.3.longest (sym h.3.whole ∙ g.3.whole) in
-    absurd (no_literal-word g.1 (subst (λ l. is_word l ≡ true) same.0 h.4) g.4)
-same_fault (LongName at) NoMemory to rest h g = absurd g
-same_fault (BigLiteral at) (BadByte bt) to rest h g = absurd (true≢false (sym (literal_is_token h.1 h.4) ∙ g.1.no_token h.1 h.2 h.3.whole))
-same_fault (BigLiteral at) (OpenComment bt) to rest h g = absurd g
-same_fault (BigLiteral at) (LongName bt) to rest h g =
-    let same = same_text h.1 h.2 g.1 g.2 (literal_is_token h.1 h.4) (word_is_token g.1 g.4) h.3.longest g.3.longest (sym h.3.whole ∙ g.3.whole) in
-    absurd (no_literal-word g.1 g.4 (subst (λ l. is_literal l ≡ true) same.0 h.4))
-same_fault (BigLiteral at) (BigLiteral bt) to rest h g = ap BigLiteral (h.0 ∙ sym g.0)
-same_fault (BigLiteral at) NoMemory to rest h g = absurd g
-same_fault NoMemory f to rest h g = absurd h
+pub has_read_none : (bytes : List ℕ) → HasRead bytes [] 0
+unfolding reading
+has_read_none bytes = record { within = omega arith; read = sym (none_before (reading_from 0 0 bytes)) }
 
--- ---- the laws
+left : (bytes : List ℕ) (at : ℕ) → at < length bytes → 0 < length (drop at bytes)
+left bytes at below = omega (arith, length-drop at bytes, below)
+
+-- one more piece
+stepped : (bytes : List ℕ) (ts : List Token) (at : ℕ) (piece : Piece) → HasRead bytes ts at → at < length bytes → piece_at at (drop at bytes) ≡ piece → 0 < piece_len piece → piece_len piece ≤ length (drop at bytes) → reading bytes ≡ with_tokens ts (before at piece (reading_from (at + piece_len piece) 0 (drop (at + piece_len piece) bytes)))
+stepped bytes ts at piece had below is some fits =
+    had.read ∙ ap (with_tokens ts) (one_piece at (drop at bytes) piece is (left bytes at below) fits some
+    ∙ ap (λ rest. before at piece (reading_from (at + piece_len piece) 0 rest)) (drop-drop (piece_len piece) at bytes))
+
+pub has_read_gap : Stands → (bytes : List ℕ) (ts : List Token) (at n : ℕ) → HasRead bytes ts at → at < length bytes → piece_at at (drop at bytes) ≡ Gap n → (at < at + n) × HasRead bytes ts (at + n)
+has_read_gap law bytes ts at n had below is =
+    let lies = subst (PieceLies (drop at bytes)) is (piece_lies law at (drop at bytes)) in
+    (omega (arith, lies.0), record { within = omega (arith, lies.1, length-drop at bytes, below); read = stepped bytes ts at (Gap n) had below is lies.0 lies.1 })
+
+pub has_read_token : Stands → (bytes : List ℕ) (ts : List Token) (at : ℕ) (t : Token) → HasRead bytes ts at → at < length bytes → t.at ≡ at → piece_at at (drop at bytes) ≡ piece.Stands t.len t.kind → (at < at + t.len) × HasRead bytes (ts ++ t ∷ []) (at + t.len)
+has_read_token law bytes ts at t had below place is =
+    let lies = subst (PieceLies (drop at bytes)) is (piece_lies law at (drop at bytes)) in
+    let same : record { at = at; len = t.len; kind = t.kind } ≡ t = ap (λ p. record { at = p; len = t.len; kind = t.kind }) (sym place) in
+    let later = reading_from (at + t.len) 0 (drop (at + t.len) bytes) in (
+      omega (arith, lies.0),
+      record {
+        within = omega (arith, lies.1, length-drop at bytes, below);
+        read = stepped bytes ts at (piece.Stands t.len t.kind) had below is lies.0 lies.1 ∙ ap (λ u. with_tokens ts (with_token u later)) same ∙ one_more_before ts t later;
+      },
+    )
+
+pub has_read_all : (bytes : List ℕ) (ts : List Token) (at : ℕ) → HasRead bytes ts at → length bytes ≤ at → AreTokens bytes ts
+has_read_all bytes ts at had end =
+    had.read ∙ at_drop_all (λ rest. with_tokens ts (reading_from at 0 rest)) bytes at end ∙ ap Ok (append-nil ts)
+
+pub has_breach : (bytes : List ℕ) (ts : List Token) (at : ℕ) (e : LexError) → HasRead bytes ts at → at < length bytes → piece_at at (drop at bytes) ≡ Breach e → Refuses bytes e
+has_breach bytes ts at e had below is =
+    had.read ∙ ap (with_tokens ts) (one_breach at (drop at bytes) e is (left bytes at below))
+
+-- a breach that a call answers
+pub refused : (bytes : List ℕ) (ts : List Token) (at : ℕ) (e : LexError) → HasRead bytes ts at → at < length bytes → IsBreach e (piece_at at (drop at bytes)) → RefusesOrNoMemory bytes e
+refused bytes ts at (BadByte p) had below is = has_breach bytes ts at (BadByte p) had below is
+refused bytes ts at (OpenComment p) had below is = has_breach bytes ts at (OpenComment p) had below is
+refused bytes ts at (LongName p) had below is = has_breach bytes ts at (LongName p) had below is
+refused bytes ts at (BigLiteral p) had below is = has_breach bytes ts at (BigLiteral p) had below is
+refused bytes ts at NoMemory had below is = tt
+
+-- ---- one text has one reading
+
+pub same_ok : (ts us : List Token) (r : Result (List Token) LexError) → r ≡ Ok ts → r ≡ Ok us → ts ≡ us
+same_ok ts us r e f = cc
 
 pub one_reading : (bytes : List ℕ) (ts us : List Token) → AreTokens bytes ts → AreTokens bytes us → ts ≡ us
-one_reading bytes ts us h g = (same_begin ts us 0 bytes [] [] h.0 g.0 IsStuck-nil IsStuck-nil h.1 g.1).same_tokens
+one_reading bytes ts us are are' = same_ok ts us (reading bytes) are are'
 
-some_fault : (e : LexError) (to : ℕ) (rest : List ℕ) → Fault e to rest → 0 < length rest
-some_fault (BadByte at) to rest h = h.1.some
-some_fault (OpenComment at) to rest h = absurd h
-some_fault (LongName at) to rest h = omega (arith, h.5, ap length h.3.whole, length-append h.1 h.2)
-some_fault (BigLiteral at) to rest h = some_begins rest h.1 h.2 h.3 (literal_is_token h.1 h.4)
-  where
-    some_begins : (rest text after : List ℕ) → BeginsWith rest text after → is_token text ≡ true → 0 < length rest
-    some_begins rest [] after begins token = absurd (no_token-nil token)
-    some_begins rest (b ∷ bs) after begins token = omega (arith, ap length begins.whole)
-some_fault NoMemory to rest h = absurd h
+pub no_both : (ts : List Token) (e : LexError) (r : Result (List Token) LexError) → r ≡ Ok ts → r ≡ Err e → ⊥
+no_both ts e r f g = cc
 
 pub read_or_refused : (bytes : List ℕ) (ts : List Token) (e : LexError) → AreTokens bytes ts → Refuses bytes e → ⊥
-read_or_refused bytes ts e h g =
-    let same = same_begin ts g.0 0 bytes [] g.2 h.0 g.1 IsStuck-nil (IsStuck-fault e g.1 g.2 g.4) h.1 g.3 in
-    omega (arith, some_fault e g.1 g.2 g.4, ap length same.same_rest)
+read_or_refused bytes ts e are refuses = no_both ts e (reading bytes) are refuses
 
 pub one_refusal : (bytes : List ℕ) (e f : LexError) → Refuses bytes e → Refuses bytes f → e ≡ f
-one_refusal bytes e f h g =
-    let same = same_begin h.0 g.0 0 bytes h.2 g.2 h.1 g.1 (IsStuck-fault e h.1 h.2 h.4) (IsStuck-fault f g.1 g.2 g.4) h.3 g.3 in
-    let fault = subst (λ p. Fault f p g.2) (sym same.same_place) g.4 in
-    same_fault e f h.1 h.2 h.4 (subst (λ l. Fault f h.1 l) (sym same.same_rest) fault)
+one_refusal bytes e f refuses refuses' = same_err e f (reading bytes) refuses refuses'
+  where
+    same_err : (e f : LexError) (r : Result (List Token) LexError) → r ≡ Err e → r ≡ Err f → e ≡ f
+    same_err e f r g h = cc
+
+refusal_cases : (bytes : List ℕ) (e : LexError) → RefusesOrNoMemory bytes e → Refuses bytes e ⊎ (e ≡ NoMemory)
+refusal_cases bytes (BadByte at) h = inl h
+refusal_cases bytes (OpenComment at) h = inl h
+refusal_cases bytes (LongName at) h = inl h
+refusal_cases bytes (BigLiteral at) h = inl h
+refusal_cases bytes NoMemory h = inr refl
+
+-- a text that has tokens is read, but for want of memory
+pub only_reading : (bytes : List ℕ) (r : Result (Vec Token Global) LexError) → IfOk r (λ v. AreTokens bytes v.items) → IfErr r (λ e. RefusesOrNoMemory bytes e) → (ts : List Token) → AreTokens bytes ts → MatchResult r (λ v. v.items ≡ ts) (λ e. e ≡ NoMemory)
+only_reading bytes (Ok v) found refused ts h = one_reading bytes v.items ts found h
+only_reading bytes (Err e) found refused ts h =
+    ⊎_elim (λ refuses. absurd (read_or_refused bytes ts e h refuses)) (λ want. want) (refusal_cases bytes e refused)
+
+-- a text that is refused answers its cause, but for want of memory
+pub only_refusal : (bytes : List ℕ) (r : Result (Vec Token Global) LexError) → IfOk r (λ v. AreTokens bytes v.items) → IfErr r (λ e. RefusesOrNoMemory bytes e) → (e : LexError) → Refuses bytes e → MatchResult r (λ _. ⊥) (λ f. (f ≡ e) ⊎ (f ≡ NoMemory))
+only_refusal bytes (Ok v) found refused e h = read_or_refused bytes v.items e found h
+only_refusal bytes (Err f) found refused e h =
+    ⊎_elim (λ refuses. inl (one_refusal bytes f e refuses h)) (λ want. inr want) (refusal_cases bytes f refused)
+
+-- ---- where tokens lie
+
+lies_from : Stands → (n : ℕ) (bytes : List ℕ) (from at : ℕ) (ts : List Token) → length bytes ≤ at + n → from ≤ at → at ≤ length bytes → reading_from at 0 (drop at bytes) ≡ Ok ts → Lie bytes from ts
+lies_from law zero bytes from at ts fuel begins within reads =
+    subst (Lie bytes from) (same_ok [] ts (reading_from at 0 (drop at bytes)) (at_drop_all (λ rest. reading_from at 0 rest) bytes at (omega (arith, fuel))) reads) tt
+lies_from law (suc n) bytes from at ts fuel begins within reads =
+    ⊎_elim
+    (λ below. by_piece below (piece_at at (drop at bytes)) refl (piece_lies law at (drop at bytes))
+    (λ k us some fits later. lies_from law n bytes from (at + k) us (omega (arith, fuel, some)) (omega (arith, begins)) (omega (arith, fits, length-drop at bytes, below)) later)
+    (λ k us some fits later. lies_from law n bytes (at + k) (at + k) us (omega (arith, fuel, some)) (omega arith) (omega (arith, fits, length-drop at bytes, below)) later))
+    (λ end. subst (Lie bytes from) (same_ok [] ts (reading_from at 0 (drop at bytes)) (at_drop_all (λ rest. reading_from at 0 rest) bytes at end) reads) tt)
+    (below_or_end at (length bytes))
+  where
+    below_or_end : (m k : ℕ) → (m < k) ⊎ (k ≤ m)
+    below_or_end m k = grind arith
+
+    split : (t : Token) (r : Result (List Token) LexError) → with_token t r ≡ Ok ts → (us : List Token) × (r ≡ Ok us) × (t ∷ us ≡ ts)
+    split t (Ok us) e = (us, refl, same_ok (t ∷ us) ts (with_token t (Ok us)) refl e)
+    split t (Err e') e = absurd (no_both ts e' (with_token t (Err e')) e refl)
+
+    by_piece : at < length bytes → (p : Piece) → piece_at at (drop at bytes) ≡ p → PieceLies (drop at bytes) p
+        → ((k : ℕ) (us : List Token) → 0 < k → k ≤ length (drop at bytes) → reading_from (at + k) 0 (drop (at + k) bytes) ≡ Ok us → Lie bytes from us)
+        → ((k : ℕ) (us : List Token) → 0 < k → k ≤ length (drop at bytes) → reading_from (at + k) 0 (drop (at + k) bytes) ≡ Ok us → Lie bytes (at + k) us)
+        → Lie bytes from ts
+    by_piece below (Gap k) is lies gap token =
+        gap k ts lies.0 lies.1
+        (sym (one_piece at (drop at bytes) (Gap k) is (left bytes at below) lies.1 lies.0 ∙ ap (λ rest. reading_from (at + k) 0 rest) (drop-drop k at bytes)) ∙ reads)
+    by_piece below (piece.Stands k kind) is lies gap token =
+        let t : Token = record { at = at; len = k; kind = kind } in
+        let parts = split t (reading_from (at + k) 0 (drop (at + k) bytes))
+        (sym (one_piece at (drop at bytes) (piece.Stands k kind) is (left bytes at below) lies.1 lies.0 ∙ ap (λ rest. with_token t (reading_from (at + k) 0 rest)) (drop-drop k at bytes)) ∙ reads) in
+        subst (Lie bytes from) parts.2
+        (begins, lies.0, omega (arith, lies.1, length-drop at bytes, below), lies.2, token k parts.0 lies.0 lies.1 parts.1)
+    by_piece below (Breach e) is lies gap token =
+        absurd (no_both ts e (reading_from at 0 (drop at bytes)) reads (one_breach at (drop at bytes) e is (left bytes at below)))
+
+pub tokens_lie : Stands → (bytes : List ℕ) (ts : List Token) → AreTokens bytes ts → Lie bytes 0 ts
+unfolding reading
+tokens_lie law bytes ts are = lies_from law (length bytes) bytes 0 0 ts (omega arith) (omega arith) (omega arith) are

@@ -1,2 +1,5 @@
-pub mod Reading
+pub mod Pieces
+pub mod Reserved
+pub mod Spaced
 pub mod Tokens
+pub mod Working

@@ -3,7 +3,10 @@
 ghost use Rattle.std.specs.Prelude.{◌≡◌, ℕ, List};
 ghost use Rattle.res_lexer.specs.declared.token.LexError.{LexError};
 ghost use Rattle.res_lexer.specs.declared.token.Token.{Token};
-ghost use Rattle.res_lexer.specs.Tokens.{AreTokens, Refuses};
+ghost use Rattle.res_lexer.specs.Spaced.{AreApart, Row, placed_from, spaced};
+ghost use Rattle.res_lexer.specs.Tokens.{AreTokens, Lie, Refuses};
+
+use identifiers::identifier_laws;
 
 /// A text has at most one list of tokens. The call does nothing.
 pub fn one_reading()
@@ -19,3 +22,17 @@ pub fn read_or_refused()
 pub fn one_refusal()
     ensures { (bytes : List ℕ) (e f : LexError) → Refuses bytes e → Refuses bytes f → e ≡ f }
 {}
+
+/// Tokens follow each other inside the text, and each is what its own bytes mean. The call does nothing.
+pub fn tokens_lie()
+    ensures { (bytes : List ℕ) (ts : List Token) → AreTokens bytes ts → Lie bytes 0 ts }
+{
+    identifier_laws();
+}
+
+/// Tokens that are written with blanks between them are read again, at the places where they were written. The call does nothing.
+pub fn reads_back()
+    ensures { (row : Row) → AreApart row → AreTokens (spaced row) (placed_from 0 row) }
+{
+    identifier_laws();
+}

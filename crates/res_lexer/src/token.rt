@@ -27,7 +27,7 @@ impl Token {
     }
 }
 
-/// A word, reserved or not, a literal, or a symbol by its number, from 1.
+/// A word, reserved or not, a literal, or a symbol by its number, which `symbol` names.
 #[derive(Debug, Drop)]
 pub enum TokenKind {
     Word(Name),
@@ -57,7 +57,7 @@ impl TokenKind {
         }
     }
 
-    /// Whether this is the symbol of this number, from 1.
+    /// Whether this is the symbol of this number.
     pub fn is_symbol(&self, number: u8) -> bool
         ensures { IsTrue result ↔ (self.now ≡ TokenKind.Symbol number) }
     {
@@ -69,7 +69,7 @@ impl TokenKind {
 }
 
 /// Why a text has no tokens, with the place of the first breach, from 0.
-#[derive(Debug, Drop, Error)]
+#[derive(Clone, Copy, Debug, PartialEq, Eq, Error)]
 pub enum LexError {
     #[error("no token begins here")]
     BadByte { at: u32 },

@@ -1,6 +1,6 @@
 use Rattle.std.proofs.Common.{◌+◌, ◌<◌, List, length, map, drop, string_bytes, subst, arith}
 use Rattle.command_words.specs.Words.{Word}
-use Rattle.command_words.specs.Reading.{options_for, IsState}
+use Rattle.command_words.specs.working.Reading.{options_for, IsState}
 use Rattle.command_words.proofs.Gathering.{rest-step}
 use Rattle.command_words.proofs.words.gather.Goals as goal
 

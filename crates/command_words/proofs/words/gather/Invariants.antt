@@ -1,5 +1,5 @@
 use Rattle.std.proofs.Common.{◌≤◌, map, drop, string_bytes}
-use Rattle.command_words.specs.Reading.{options_for, IsState}
+use Rattle.command_words.specs.working.Reading.{options_for, IsState}
 use Rattle.command_words.proofs.words.gather.Given as goal
 
 abbrev pub invariant-loop-word : goal.invariant-loop-word

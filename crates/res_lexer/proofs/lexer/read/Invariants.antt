@@ -1,5 +1,5 @@
 use Rattle.std.proofs.Common.{length, ◌-◌}
-use Rattle.res_lexer.proofs.Steps.{HasRead}
+use Rattle.res_lexer.proofs.Readings.{HasRead}
 use Rattle.res_lexer.proofs.lexer.read.Given as goal
 
 abbrev pub invariant-loop-at : goal.invariant-loop-at

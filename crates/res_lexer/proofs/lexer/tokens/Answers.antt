@@ -1,4 +1,4 @@
-use Rattle.res_lexer.proofs.Steps.{only_reading, only_refusal}
+use Rattle.res_lexer.proofs.Readings.{only_reading, only_refusal}
 use Rattle.res_lexer.proofs.lexer.tokens.Goals as goal
 
 pub returns-clause-only : goal.returns-clause-only

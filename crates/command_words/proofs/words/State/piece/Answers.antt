@@ -1,6 +1,6 @@
 use Rattle.std.proofs.Common.{◌≡◌, ◌∷◌, [], ◌++◌, Some, sym, subst, ap, ◌∙◌}
 use Rattle.command_words.specs.Words as spec
-use Rattle.command_words.specs.Reading.{option_word, options_for, IsPiece}
+use Rattle.command_words.specs.working.Reading.{option_word, options_for, IsPiece}
 use Rattle.command_words.specs.declared.words.Piece.{Piece}
 use Rattle.command_words.proofs.Gathering.{piece-read, prepended-option, prepended-further}
 use Rattle.command_words.proofs.words.State.piece.Goals as goal

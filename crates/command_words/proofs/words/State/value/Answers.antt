@@ -1,7 +1,7 @@
 use Rattle.std.proofs.Common.{◌≡◌, ◌∷◌, [], ◌++◌, true, sym, ap, ◌∙◌, subst}
 use Rattle.command_words.specs.Words as spec
 use Rattle.command_words.specs.Words.{Word}
-use Rattle.command_words.specs.Reading.{option_word, options_for, IsSummary}
+use Rattle.command_words.specs.working.Reading.{option_word, options_for, IsSummary}
 use Rattle.command_words.proofs.Gathering.{value-taken}
 use Rattle.command_words.proofs.words.State.value.Goals as goal
 
