@@ -1,0 +1,11 @@
+pub mod Numbers
+pub mod Language
+pub mod Expressions
+pub mod Classes
+pub mod OwnName
+pub mod ClosingName
+pub mod Nesting
+pub mod Following
+pub mod Laws
+pub mod Faults
+pub mod Places
