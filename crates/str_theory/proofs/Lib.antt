@@ -1,0 +1,14 @@
+pub mod Lists
+pub mod Folds
+pub mod Kinded
+pub mod Telling
+pub mod Worth
+pub mod Keeping
+pub mod Matching
+pub mod ChainValues
+pub mod Equations
+pub mod Placed
+pub mod Atoms
+pub mod FormTerms
+pub mod Soundness
+pub mod Stepping

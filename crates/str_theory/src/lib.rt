@@ -1,0 +1,6 @@
+//! Rewriting rules on strings, tuples and equations, with their side conditions.
+#![tactic(auto)]
+
+mod laws;
+
+pub use laws::{rewritings_hold, rules_keep_truth};
