@@ -1,5 +1,5 @@
 #!/usr/bin/env python3
-"""Writes the tables of the grammar that language.txt beside this file says.
+"""Writes the tables of the grammar that crates/show_grammar/stdout says.
 
     grammar/write_tables.py          writes the tables, after a word on the grammar
     grammar/write_tables.py --words  says it alone
@@ -309,7 +309,7 @@ class Writer:
 
 
 def main():
-    grammar = Grammar((HERE / "language.txt").read_text(encoding="utf-8"))
+    grammar = Grammar((CRATES / "show_grammar" / "stdout").read_text(encoding="utf-8"))
     test = Test(grammar)
     conflicts = list(test.conflicts())
     symbols = sum(len(right) for _, right in grammar.rules)
