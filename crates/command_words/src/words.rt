@@ -6,7 +6,8 @@ ghost use Rattle.std.specs.Str.Parse.{digits_value};
 ghost use Rattle.res_lexer.specs.Tokens.{is_digit, same_bytes};
 ghost use Rattle.command_words.specs.Words as spec;
 ghost use Rattle.command_words.specs.Words.{Word, good_values};
-ghost use Rattle.command_words.specs.working.Reading.{IsLimit, verb_word, option_word, options_for, has_option, AddsOption, IsPiece, IsSummary, IsState, StepsTo, Gathers, Says, IsCommand};
+ghost use Rattle.command_words.specs.Answer.{IsCommand};
+ghost use Rattle.command_words.specs.working.Reading.{IsLimit, verb_word, option_word, options_for, has_option, AddsOption, IsPiece, IsSummary, IsState, StepsTo, Gathers, Says};
 
 const MOST_FILES: usize = 256;
 

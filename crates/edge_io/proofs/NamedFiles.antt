@@ -3,7 +3,8 @@ use Rattle.std.proofs.Common.{◌≡◌, ◌≢◌, ℕ, zero, suc, ◌+◌, ◌
 use Rattle.std.proofs.Math.Seq.{take-suc}
 use Rattle.std.specs.Bool.{Decides}
 use Rattle.std.proofs.lemmas.Slice.Eq.{bytes_eq-Decides}
-use Rattle.edge_io.specs.working.Memory.{IsFirst, files_of}
+use Rattle.edge_io.specs.Memory.{files_of}
+use Rattle.edge_io.specs.working.First.{IsFirst}
 
 is_false : (b : Bool) (P : Type 0) → Decides b P → ¬ P → b ≡ false
 is_false true P d refuted = absurd (refuted (d.0 refl))

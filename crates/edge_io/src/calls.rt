@@ -1,7 +1,7 @@
 //! Calls that are counted, some of which fail.
 
 ghost use Rattle.std.specs.Prelude.{◌≡◌, ◌+◌, ◌-◌, ◌^◌, ◌<◌, ◌≤◌, ◌↔◌, IsTrue, IsFalse, min};
-ghost use Rattle.edge_io.specs.working.Memory.{Fails};
+ghost use Rattle.edge_io.specs.Memory.{Fails};
 
 use crate::listed::Listed;
 

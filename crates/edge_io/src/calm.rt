@@ -3,7 +3,7 @@
 ghost use Rattle.std.specs.Prelude.{◌≡◌, ◌≤◌, ◌+◌, [], Some, IfOk, IsErrOf, IsFalse, IsOk, OnErr, OnOk, drop, length, true};
 ghost use Rattle.edge_io.specs.Files.{LeavesFew, ReadAnswers, SameOthers, WriteAnswers};
 ghost use Rattle.edge_io.specs.Held.{Grew, Took};
-ghost use Rattle.edge_io.specs.working.Memory.{files_of, told};
+ghost use Rattle.edge_io.specs.Memory.{files_of, told};
 
 use crate::left::read_from;
 use crate::listed::Listed;
@@ -77,7 +77,7 @@ impl CalmSink {
 }
 
 impl Sink for CalmSink {
-    ghost use Rattle.edge_io.specs.working.Memory.{told};
+    ghost use Rattle.edge_io.specs.Memory.{told};
 
     ghost faults = { λ _. 0 };
 
@@ -107,7 +107,7 @@ impl CalmShelf {
 
 impl Shelf for CalmShelf {
     ghost use Rattle.std.specs.Prelude.{true};
-    ghost use Rattle.edge_io.specs.working.Memory.{files_of};
+    ghost use Rattle.edge_io.specs.Memory.{files_of};
 
     ghost faults = { λ _. 0 };
 

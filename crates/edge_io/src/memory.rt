@@ -3,7 +3,7 @@
 ghost use Rattle.std.specs.Prelude.{◌≡◌, ◌≤◌, ◌<◌, ◌+◌, ◌-◌, ◌^◌, ◌↔◌, [], Some, IfOk, IsErr, IsErrOf, IsFalse, OnErr, OnOk, drop, length, min, true};
 ghost use Rattle.edge_io.specs.Files.{LeavesFew, ReadAnswers, SameOthers, WriteAnswers};
 ghost use Rattle.edge_io.specs.Held.{Grew, Took};
-ghost use Rattle.edge_io.specs.working.Memory.{Fails, files_of, told};
+ghost use Rattle.edge_io.specs.Memory.{Fails, files_of, told};
 
 use crate::calls::call_fails;
 use crate::left::read_from;
@@ -120,7 +120,7 @@ impl MemSink {
 }
 
 impl Sink for MemSink {
-    ghost use Rattle.edge_io.specs.working.Memory.{told};
+    ghost use Rattle.edge_io.specs.Memory.{told};
 
     ghost faults = { λ sink. sink.faults };
 
@@ -169,7 +169,7 @@ impl MemShelf {
 
 impl Shelf for MemShelf {
     ghost use Rattle.std.specs.Prelude.{true};
-    ghost use Rattle.edge_io.specs.working.Memory.{files_of};
+    ghost use Rattle.edge_io.specs.Memory.{files_of};
 
     ghost faults = { λ shelf. shelf.faults };
 

@@ -3,7 +3,8 @@
 ghost use Rattle.std.specs.Prelude.{◌≡◌, ◌<◌, IfNone, IfSome, IsErrOf, OnOk, OnErr, Some, length};
 ghost use Rattle.std.specs.Option.{option_copied};
 ghost use Rattle.edge_io.specs.Files.{LeavesFew, ReadAnswers, SameOthers, WriteAnswers};
-ghost use Rattle.edge_io.specs.working.Memory.{IsFirst, files_of};
+ghost use Rattle.edge_io.specs.Memory.{files_of};
+ghost use Rattle.edge_io.specs.working.First.{IsFirst};
 
 use crate::listed::{Listed, Text};
 use crate::shelf::{LONGEST_FILE, ShelfError};

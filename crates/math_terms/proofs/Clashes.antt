@@ -8,7 +8,7 @@ use Rattle.math_terms.specs.declared.term.Term.{Term}
 use Rattle.math_terms.specs.declared.term.Term.TheOpen.{Term-F}
 use Rattle.math_terms.specs.declared.term.Term.TheFolds.{map-Term, fold-roll-Term, ind-Term}
 use Rattle.math_terms.specs.Sorts.{Sorting, all_sorts, as_b, b, both_sorts, given, given_two, is_b, is_str, is_z, kept, mapped, meeting, orders, param, part_of, sort, sort_step, sorting, sorting_step, str, tuple_option, z}
-use Rattle.math_terms.specs.Walking.{IsClash}
+use Rattle.math_terms.specs.working.Walking.{IsClash}
 use Rattle.math_terms.proofs.Walks.{found_later, sorting_sort}
 
 abbrev IsSorted : Option Sort → Type 0

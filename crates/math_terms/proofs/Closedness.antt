@@ -11,7 +11,7 @@ use Rattle.math_terms.specs.Terms.{every_child}
 use Rattle.math_terms.specs.Meaning.{Valuation, value_step, value_where}
 use Rattle.math_terms.specs.Descriptors.{nothing, zeros}
 use Rattle.math_terms.specs.Plain.{is_fixed, is_narrow, plain_step}
-use Rattle.math_terms.specs.Evaluating.{plain}
+use Rattle.math_terms.specs.working.Evaluating.{plain}
 use Rattle.math_terms.specs.Heads.{children}
 use Rattle.math_terms.proofs.Folds.{map-map}
 use Rattle.math_terms.proofs.SameTerms.{mapped_heads, same_heads}

@@ -18,7 +18,7 @@ use Rattle.math_terms.specs.Meaning.{value_step}
 use Rattle.math_terms.specs.Descriptors.{nothing, zeros}
 use Rattle.math_terms.specs.Plain.{is_narrow, is_plain, plain_step}
 use Rattle.math_terms.specs.Views.{binary_node, unary_node}
-use Rattle.math_terms.specs.Evaluating.{IsEvaluation, plain, plain_value}
+use Rattle.math_terms.specs.working.Evaluating.{IsEvaluation, plain, plain_value}
 
 -- the part of a list from one place to another, cut at its length
 pub between_is : {A : Type 0} (m n s e : ℕ) (xs : List A) → e ≡ min n (length xs) → s ≡ min m e → take (e - s) (drop s xs) ≡ drop m (take n xs)

@@ -19,7 +19,7 @@ use Rattle.math_terms.specs.Views.{binary_node, unary_node}
 use Rattle.math_terms.specs.declared.view.Binary.{Binary}
 use Rattle.math_terms.specs.declared.view.Unary.{Unary}
 use Rattle.math_terms.specs.declared.term.Term.TheViews.{roll-Term}
-use Rattle.math_terms.specs.Walking.{IsClash, IsWalk, IsWalkOfAll, numbered}
+use Rattle.math_terms.specs.working.Walking.{IsClash, IsWalk, IsWalkOfAll, numbered}
 use Rattle.math_terms.specs.Heads.{children}
 use Rattle.math_terms.proofs.Folds.{fold_fusion}
 use Rattle.math_terms.proofs.Heads.{fold_at, fold_at_one, fold_at_two, nodes_at_one, nodes_at_two, nodes_of_node}

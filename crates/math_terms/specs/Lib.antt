@@ -7,11 +7,10 @@ pub mod Validity
 pub mod Plain
 pub mod Positions
 pub mod Laws
-pub mod Evaluating
 pub mod Forms
 pub mod Heads
 pub mod Sorts
 pub mod Kinds
 pub mod Kinding
 pub mod Views
-pub mod Walking
+pub mod working

@@ -8,7 +8,7 @@ ghost use Rattle.math_terms.specs.declared.term.Term.TheOpen.{Term-F};
 ghost use Rattle.math_terms.specs.Meaning.{Valuation, value_step};
 ghost use Rattle.math_terms.specs.Descriptors.{Interpretation, holds, nothing, zeros};
 ghost use Rattle.math_terms.specs.Plain.{is_narrow, is_plain, plain_step};
-ghost use Rattle.math_terms.specs.Evaluating.{IsEvaluation, plain};
+ghost use Rattle.math_terms.specs.working.Evaluating.{IsEvaluation, plain};
 ghost use Rattle.math_terms.specs.Views.{binary_node, unary_node};
 
 use crate::name::NoMemory;

@@ -5,7 +5,7 @@ ghost use Rattle.math_terms.specs.declared.term.Term.TheOpen.{Term-F};
 ghost use Rattle.math_terms.specs.Terms.{nodes};
 ghost use Rattle.math_terms.specs.Sorts.{IsSortRefusal, sort, sorting, sorting_step};
 ghost use Rattle.math_terms.specs.Views.{binary_node};
-ghost use Rattle.math_terms.specs.Walking.{IsWalk, IsWalkOfAll, numbered};
+ghost use Rattle.math_terms.specs.working.Walking.{IsWalk, IsWalkOfAll, numbered};
 
 use crate::descriptor::Sort;
 use crate::meeting::string_of;

@@ -18,10 +18,10 @@ use Rattle.math_terms.specs.Kinds.{kind}
 use Rattle.math_terms.specs.Sorts.{is_z}
 use Rattle.num_theory.specs.declared.number.Number.{Number}
 use Rattle.num_theory.specs.declared.number.Number.TheVariants.{Exact, Lost}
-use Rattle.num_theory.specs.Gathering.{no_rows, with_sums}
+use Rattle.num_theory.specs.working.Gathering.{no_rows, with_sums}
 use Rattle.num_theory.specs.Laws.{RowsFit}
 use Rattle.num_theory.specs.Linear.{Form, Product, RawProduct, exact_product, formed, insert_product, linear_of, narrow_products, shown, shown_form, text_before}
-use Rattle.num_theory.specs.Making.{IsWellMade}
+use Rattle.num_theory.specs.working.Making.{IsWellMade}
 use Rattle.num_theory.specs.Number.{exact, is_narrow, is_zero}
 use Rattle.num_theory.specs.Rows.{all_narrow, divisor, narrow, reduced}
 use Rattle.num_theory.specs.Table.{Gathered, Sum, coefficient, difference, facts_of, gathered, go_on, row_of, sums_at, sums_from, sums_of, sums_of_equation, sums_of_fact, sums_of_fact_at, sums_of_facts, sums_of_form, with_all_facts, with_facts}

@@ -19,7 +19,8 @@ use Rattle.num_theory.specs.Linear.{Form, Product, add_products, atom_form, cons
 use Rattle.num_theory.specs.Laws.{FormsKeepValues, sum_of_products}
 use Rattle.std.specs.Option.{IfSome}
 use Rattle.num_theory.specs.declared.table.LinearForm.{LinearForm}
-use Rattle.num_theory.specs.Making.{IsWellMade, linear_shown}
+use Rattle.num_theory.specs.Shown.{linear_shown}
+use Rattle.num_theory.specs.working.Making.{IsWellMade}
 use Rattle.num_theory.proofs.Forming.{form_at, form_other, formed_first, is_other, product_atom, remainder_above, remainder_at}
 use Rattle.num_theory.proofs.Integers.{exact_sum, exact_times, remainder_is, sum_times}
 use Rattle.num_theory.proofs.Sums.{IsDistinct, adds_value, distinct_adds, distinct_scaled, open_all, scaled_value, shown_value, zero_value}

@@ -8,7 +8,7 @@ use Rattle.std.proofs.Math.Seq.{take-append_seam, drop-append_seam}
 use Rattle.std.proofs.lemmas.List.Sums.{prefix_len-le-length}
 use Rattle.num_theory.specs.Number.{is_zero}
 use Rattle.num_theory.specs.Linear.{Product, RawProduct, exact_product, insert_product, in_text_order, shown, text_before}
-use Rattle.num_theory.specs.Making.{text_of_product}
+use Rattle.num_theory.specs.working.Making.{text_of_product}
 
 -- where the first element is that passes, if one does
 pub position-Some_place : {X : Type 0} (p : X → Bool) (xs : List X) (k : ℕ) → position p xs ≡ Some k → k ≡ position_or_len p xs

@@ -20,7 +20,7 @@ use Rattle.math_terms.specs.Laws.{EqualityIsSameness, SameTermsAreEqual}
 use Rattle.math_terms.specs.Meaning.{Valuation, value_step}
 use Rattle.math_terms.specs.Sorts.{is_z}
 use Rattle.math_terms.specs.Values.{Val, entries, number, truth, quotient}
-use Rattle.num_theory.specs.Gathering.{no_rows, with_sums}
+use Rattle.num_theory.specs.working.Gathering.{no_rows, with_sums}
 use Rattle.num_theory.specs.Laws.{RowsAreTrue, RowsFollow, SumHolds, sum_of_products, worth}
 use Rattle.num_theory.specs.Number.{exact}
 use Rattle.num_theory.specs.Linear.{Product, formed, linear_of, shown}

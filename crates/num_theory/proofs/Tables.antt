@@ -10,7 +10,7 @@ use Rattle.num_theory.specs.declared.table.RowError.{RowError}
 use Rattle.num_theory.specs.declared.table.RowError.TheVariants.{TooMany, NoMemory}
 use Rattle.num_theory.specs.Linear.{Product}
 use Rattle.num_theory.specs.Table.{Gathered, IsRowRefusal, IsTooMany, Sum, atoms_of, facts_of, sums_from, sums_of, sums_of_fact, sums_of_facts, go_on, with_all_facts, with_atom, with_atoms, with_facts}
-use Rattle.num_theory.specs.Gathering.{with_each_fact, with_fact, with_sums}
+use Rattle.num_theory.specs.working.Gathering.{with_each_fact, with_fact, with_sums}
 
 with_atoms-append : (atoms : List Term) (ps qs : List Product) → with_atoms atoms (ps ++ qs) ≡ with_atoms (with_atoms atoms ps) qs
 with_atoms-append atoms [] qs = refl

@@ -9,7 +9,7 @@ use Rattle.num_theory.specs.declared.number.Number.{Number}
 use Rattle.num_theory.specs.declared.number.Number.TheVariants.{Exact}
 use Rattle.num_theory.specs.Number.{is_narrow, sum}
 use Rattle.num_theory.specs.Linear.{Form, Formed, RawProduct, add_products, atom_form, formed, form_step, is_constant, made, minus_one, multiple, narrow_products, plus, product_form, rebuilt, remainder_by, remainder_over, times}
-use Rattle.num_theory.specs.Making.{IsWellMade}
+use Rattle.num_theory.specs.working.Making.{IsWellMade}
 use Rattle.num_theory.proofs.Forming.{form_at}
 
 pub made_well : (parts : Bool) (ps : List RawProduct) (n : Number) → IsWellMade (made parts ps n)

@@ -2,7 +2,7 @@
 
 ghost use Rattle.std.specs.Prelude.{◌≡◌, ◌+◌, ◌*◌, ◌<◌, ◌≤◌, ◌^◌, ◌++◌, [], ◌∷◌, IfErr, IfOk, OnOk, length, map, slice_index_or};
 ghost use Rattle.math_terms.specs.declared.term.Term.{Term};
-ghost use Rattle.num_theory.specs.Gathering.{Becomes, gathered_of, no_rows, sum_of, with_sums};
+ghost use Rattle.num_theory.specs.working.Gathering.{Becomes, gathered_of, no_rows, sum_of, with_sums};
 ghost use Rattle.num_theory.specs.Laws.{RowsAreTrue};
 ghost use Rattle.num_theory.specs.Table as spec;
 

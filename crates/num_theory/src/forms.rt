@@ -6,7 +6,7 @@ ghost use Rattle.math_terms.specs.declared.term.Term.TheViews.{roll-Term};
 ghost use Rattle.math_terms.specs.Heads.{same_term};
 ghost use Rattle.math_terms.specs.Views.{binary_node};
 ghost use Rattle.num_theory.specs.Linear as spec;
-ghost use Rattle.num_theory.specs.Making.{form_of};
+ghost use Rattle.num_theory.specs.working.Making.{form_of};
 
 use crate::number::Number;
 use crate::vectors::push;

@@ -6,7 +6,7 @@ ghost use Rattle.math_terms.specs.Heads.{same_term};
 ghost use Rattle.math_terms.specs.Kinds.{kind};
 ghost use Rattle.math_terms.specs.Sorts.{is_z};
 ghost use Rattle.num_theory.specs.Rows.{narrow};
-ghost use Rattle.num_theory.specs.Gathering.{Becomes, gathered_of, sum_of, with_each_fact, with_fact, with_sums};
+ghost use Rattle.num_theory.specs.working.Gathering.{Becomes, gathered_of, sum_of, with_each_fact, with_fact, with_sums};
 ghost use Rattle.num_theory.specs.Table as spec;
 
 use crate::forms::is_same;

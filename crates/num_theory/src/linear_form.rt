@@ -10,7 +10,8 @@ ghost use Rattle.math_terms.specs.Values.{number};
 ghost use Rattle.num_theory.specs.Laws.{sum_of_products};
 ghost use Rattle.num_theory.specs.Linear as spec;
 ghost use Rattle.num_theory.specs.Number.{exact, is_narrow, is_zero};
-ghost use Rattle.num_theory.specs.Making.{IsWellMade, form_of, linear_shown, text_of_product};
+ghost use Rattle.num_theory.specs.Shown.{linear_shown};
+ghost use Rattle.num_theory.specs.working.Making.{IsWellMade, form_of, text_of_product};
 
 use crate::forms::{RawForm, difference_form, raw_form};
 use crate::number::Number;

@@ -7,7 +7,7 @@ use Rattle.res_lexer.specs.declared.token.LexError.TheVariants.{BadByte, OpenCom
 use Rattle.identifiers.specs.Laws.{Stands}
 use Rattle.res_lexer.specs.Pieces as piece
 use Rattle.res_lexer.specs.Pieces.{Piece, Gap, Breach, piece_at, piece_len}
-use Rattle.res_lexer.specs.Working.{IsBreach}
+use Rattle.res_lexer.specs.working.Found.{IsBreach}
 use Rattle.res_lexer.proofs.Lying.{PieceLies, piece_lies}
 use Rattle.res_lexer.specs.Tokens.{before, reading, reading_from, with_token, AreTokens, Lie, Refuses, RefusesOrNoMemory}
 

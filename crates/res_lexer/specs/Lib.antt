@@ -2,4 +2,4 @@ pub mod Pieces
 pub mod Reserved
 pub mod Spaced
 pub mod Tokens
-pub mod Working
+pub mod working

@@ -5,7 +5,7 @@ ghost use Rattle.std.specs.List.{prefix_len};
 ghost use Rattle.std.specs.Str.Parse.{digits_value};
 ghost use Rattle.res_lexer.specs.Pieces as spec;
 ghost use Rattle.res_lexer.specs.Pieces.{is_blank, is_digit, is_literal, line_comment_len, bracket_comment_len, before_closing, piece_at, symbol_at, symbols, greatest_literal};
-ghost use Rattle.res_lexer.specs.Working.{Answers};
+ghost use Rattle.res_lexer.specs.working.Found.{Answers};
 
 use crate::token::{LexError, Token, TokenKind};
 use identifiers::identifier_len;

@@ -125,9 +125,3 @@ Gathers names words (Some s) = SumsUp names words s
 abbrev pub Says : Command → spec.Command → Type 0
 Says (command.Run file steps) c = c ≡ spec.Run file.now steps
 Says command.Other c = c ≡ spec.Other
-
--- The answer is the command that the words say.
-abbrev pub IsCommand : Option Command → List Word → Type 0
-IsCommand None words = spec.read_words words ≡ None
-IsCommand (Some (command.Run file steps)) words = spec.command words ≡ Some (spec.Run file.now steps)
-IsCommand (Some command.Other) words = spec.command words ≡ Some spec.Other

@@ -1,5 +1,5 @@
 use Rattle.std.proofs.Common.{◌≡◌, None, take}
-use Rattle.edge_io.specs.working.Memory.{files_of}
+use Rattle.edge_io.specs.Memory.{files_of}
 use Rattle.edge_io.proofs.pairs.first_of.Given as goal
 
 -- no file so far has the name

@@ -5,7 +5,7 @@ use Rattle.std.specs.List.{list_all}
 use Rattle.math_terms.specs.declared.term.Term.TheOpen.{Term-F}
 use Rattle.math_terms.specs.declared.value.Value.{Value}
 use Rattle.math_terms.specs.Plain.{is_plain, plain_step}
-use Rattle.math_terms.specs.Evaluating.{IsEvaluation, plain, plain_value}
+use Rattle.math_terms.specs.working.Evaluating.{IsEvaluation, plain, plain_value}
 use Rattle.math_terms.proofs.Evaluations.{evaluated_at, tuple_answer, tuple_none}
 use Rattle.math_terms.proofs.Heads.{fold_at, fold_at_one, fold_at_two}
 use Rattle.math_terms.proofs.evaluation.+evaluate.Goals as goal

@@ -3,7 +3,7 @@ use Rattle.std.specs.List.{list_all}
 use Rattle.math_terms.specs.Terms.{nodes}
 use Rattle.math_terms.specs.Values.{denotes}
 use Rattle.math_terms.specs.Plain.{is_plain}
-use Rattle.math_terms.specs.Evaluating.{plain_value}
+use Rattle.math_terms.specs.working.Evaluating.{plain_value}
 use Rattle.math_terms.proofs.evaluation.+evaluate.Given as goal
 
 abbrev pub invariant-evaluate_tuple-loop-t : goal.invariant-evaluate_tuple-loop-t

@@ -3,7 +3,7 @@ use Rattle.std.proofs.lemmas.Int.{to_z-of_z}
 use Rattle.std.specs.Int.{w128}
 use Rattle.math_terms.specs.declared.name.NoMemory.{NoMemory}
 use Rattle.math_terms.specs.declared.value.Value.{Value}
-use Rattle.math_terms.specs.Evaluating.{IsEvaluation}
+use Rattle.math_terms.specs.working.Evaluating.{IsEvaluation}
 use Rattle.math_terms.proofs.Evaluations.{part_answer}
 use Rattle.math_terms.proofs.evaluation.part.Goals as goal
 

@@ -2,7 +2,7 @@ use Rattle.std.proofs.Common.{◌∙◌, sym, ap, subst, Option, Ok}
 use Rattle.math_terms.specs.declared.value.Value.{Value}
 use Rattle.math_terms.specs.Values.{truth}
 use Rattle.math_terms.specs.Descriptors.{starts_in}
-use Rattle.math_terms.specs.Evaluating.{IsEvaluation, plain}
+use Rattle.math_terms.specs.working.Evaluating.{IsEvaluation, plain}
 use Rattle.math_terms.proofs.Closedness.{value_of_plain}
 use Rattle.math_terms.proofs.evaluation.truth.Goals as goal
 

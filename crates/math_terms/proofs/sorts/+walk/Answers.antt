@@ -8,7 +8,7 @@ use Rattle.math_terms.specs.declared.term.Term.TheOpen.{Term-F}
 use Rattle.math_terms.specs.Sorts.{Sorting, all_sorts, orders, sort_step, sorting, tuple_option}
 use Rattle.math_terms.specs.Terms.{nodes}
 use Rattle.math_terms.specs.Views.{binary_node, unary_node}
-use Rattle.math_terms.specs.Walking.{IsWalk}
+use Rattle.math_terms.specs.working.Walking.{IsWalk}
 use Rattle.math_terms.proofs.Folds.{one_more}
 use Rattle.math_terms.proofs.Heads.{nodes_at_tuple}
 use Rattle.math_terms.proofs.Walks.{IsPast, IsWalk-err, IsWalkOfAll-err, at_head, at_head_one, clash_first, list_clash, long_of_one, long_of_three, long_of_two, node_answer, orders_long, over, over_clash, over_one, over_two, past_first, past_next, past_none, past_push, sorts_push}

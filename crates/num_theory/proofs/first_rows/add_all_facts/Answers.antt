@@ -1,7 +1,7 @@
 use Rattle.std.proofs.Common.{◌≡◌, ◌+◌, ◌-◌, ◌∙◌, sym, ap, subst, pos, get_or, arith}
 use Rattle.std.proofs.lemmas.List.{get_or_default}
 use Rattle.math_terms.specs.declared.term.Term.{Term}
-use Rattle.num_theory.specs.Gathering.{gathered_of}
+use Rattle.num_theory.specs.working.Gathering.{gathered_of}
 use Rattle.num_theory.specs.Table.{IsFew, IsRowRefusal, num, with_all_facts, with_facts}
 use Rattle.num_theory.proofs.Tables.{facts_end, facts_past, facts_step, refusal_grows_all}
 use Rattle.num_theory.proofs.first_rows.add_all_facts.Goals as goal

@@ -1,5 +1,5 @@
 use Rattle.std.proofs.Common.{◌≡◌, ◌≤◌, ◌*◌, ◌-◌}
-use Rattle.num_theory.specs.Gathering.{gathered_of}
+use Rattle.num_theory.specs.working.Gathering.{gathered_of}
 use Rattle.num_theory.specs.Table.{IsFew, with_all_facts}
 use Rattle.num_theory.proofs.first_rows.add_all_facts.Given as goal
 

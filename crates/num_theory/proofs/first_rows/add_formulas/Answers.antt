@@ -1,5 +1,5 @@
 use Rattle.std.proofs.Common.{◌≡◌, ◌+◌, ◌∙◌, sym, ap, subst, take, arith}
-use Rattle.num_theory.specs.Gathering.{gathered_of, with_sums}
+use Rattle.num_theory.specs.working.Gathering.{gathered_of, with_sums}
 use Rattle.num_theory.specs.Table.{IsFew, IsRowRefusal, sums_from, sums_of}
 use Rattle.num_theory.proofs.Tables.{refusal_grows_formulas, sums_from_more, with_sums-append}
 use Rattle.num_theory.proofs.first_rows.add_formulas.Goals as goal

@@ -1,5 +1,5 @@
 use Rattle.std.proofs.Common.{◌≡◌, take}
-use Rattle.num_theory.specs.Gathering.{gathered_of, with_sums}
+use Rattle.num_theory.specs.working.Gathering.{gathered_of, with_sums}
 use Rattle.num_theory.specs.Table.{IsFew, sums_from}
 use Rattle.num_theory.proofs.first_rows.add_formulas.Given as goal
 

@@ -1,5 +1,5 @@
 use Rattle.std.proofs.Common.{◌≡◌, map, take}
-use Rattle.num_theory.specs.Gathering.{sum_of}
+use Rattle.num_theory.specs.working.Gathering.{sum_of}
 use Rattle.num_theory.specs.Table.{Sum}
 use Rattle.num_theory.proofs.first_rows.names_in_order.Given as goal
 

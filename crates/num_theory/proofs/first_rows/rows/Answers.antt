@@ -1,5 +1,5 @@
 use Rattle.std.proofs.Common.{◌≡◌, ◌∙◌, sym, ap, subst}
-use Rattle.num_theory.specs.Gathering.{gathered_of, no_rows, with_sums}
+use Rattle.num_theory.specs.working.Gathering.{gathered_of, no_rows, with_sums}
 use Rattle.num_theory.specs.Table.{Gathered, IsFew, IsRowRefusal, IsTable, gathered, rows_of, sums_from, table_of, with_all_facts}
 use Rattle.num_theory.proofs.RowMeaning.{rows_true_along}
 use Rattle.num_theory.proofs.Tables.{refusal_grows_all}

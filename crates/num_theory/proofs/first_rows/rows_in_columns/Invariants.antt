@@ -1,5 +1,5 @@
 use Rattle.std.proofs.Common.{◌≡◌, map, take}
-use Rattle.num_theory.specs.Gathering.{sum_of}
+use Rattle.num_theory.specs.working.Gathering.{sum_of}
 use Rattle.num_theory.specs.Table.{row_of}
 use Rattle.num_theory.proofs.first_rows.rows_in_columns.Given as goal
 

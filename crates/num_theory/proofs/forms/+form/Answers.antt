@@ -5,7 +5,7 @@ use Rattle.math_terms.specs.declared.term.Term.TheOpen.{Term-F}
 use Rattle.math_terms.specs.declared.term.Term.TheViews.{roll-Term}
 use Rattle.math_terms.specs.Views.{binary_node, node_of}
 use Rattle.num_theory.specs.Linear.{Form, are_zero, atom_form, constant_form, formed, is_constant, minus_one, multiple, plus, times}
-use Rattle.num_theory.specs.Making.{form_of}
+use Rattle.num_theory.specs.working.Making.{form_of}
 use Rattle.num_theory.proofs.Forming.{form_other, other_view, other_two, product_atom, remainder_low, remainder_high, remainder_other}
 use Rattle.num_theory.proofs.forms.+form.Goals as goal
 

@@ -2,7 +2,7 @@ use Rattle.std.proofs.Common.{◌≡◌, ◌∙◌, sym, ap, subst, pos, true, �
 use Rattle.math_terms.specs.declared.name.RowName.TheVariants.{Hyp, Second}
 use Rattle.math_terms.specs.Kinds.{kind}
 use Rattle.math_terms.specs.Sorts.{is_z}
-use Rattle.num_theory.specs.Gathering.{gathered_of, with_sums}
+use Rattle.num_theory.specs.working.Gathering.{gathered_of, with_sums}
 use Rattle.num_theory.specs.Table.{IsRowRefusal, Sum, difference, sums_of_equation}
 use Rattle.num_theory.proofs.Tables.{refusal_grows}
 use Rattle.num_theory.proofs.gathering.add_equation.Goals as goal

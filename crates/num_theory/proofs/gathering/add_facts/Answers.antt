@@ -1,5 +1,5 @@
 use Rattle.std.proofs.Common.{◌≡◌, ◌+◌, ◌∙◌, sym, ap, subst, take, arith}
-use Rattle.num_theory.specs.Gathering.{gathered_of, with_each_fact, with_fact}
+use Rattle.num_theory.specs.working.Gathering.{gathered_of, with_each_fact, with_fact}
 use Rattle.num_theory.specs.Table.{Gathered, IsFew, IsRowRefusal}
 use Rattle.num_theory.proofs.Tables.{refusal_grows_facts, with_each_fact_more}
 use Rattle.num_theory.proofs.gathering.add_facts.Goals as goal

@@ -1,5 +1,5 @@
 use Rattle.std.proofs.Common.{◌≡◌, ◌+◌, take}
-use Rattle.num_theory.specs.Gathering.{gathered_of, with_each_fact}
+use Rattle.num_theory.specs.working.Gathering.{gathered_of, with_each_fact}
 use Rattle.num_theory.specs.Table.{IsFew}
 use Rattle.num_theory.proofs.gathering.add_facts.Given as goal
 

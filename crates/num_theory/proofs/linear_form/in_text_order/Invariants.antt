@@ -1,6 +1,6 @@
 use Rattle.std.proofs.Common.{◌≡◌, ◌≤◌, map, take, drop, vec_len}
 use Rattle.num_theory.specs.Linear.{shown}
-use Rattle.num_theory.specs.Making.{text_of_product}
+use Rattle.num_theory.specs.working.Making.{text_of_product}
 use Rattle.num_theory.proofs.linear_form.in_text_order.Given as goal
 
 abbrev pub invariant-loop-coefficient : goal.invariant-loop-coefficient

@@ -1,7 +1,7 @@
 use Rattle.std.proofs.Common.{◌∙◌, sym, subst}
 use Rattle.std.proofs.lemmas.Result.{IfOk-weaker}
 use Rattle.num_theory.specs.Linear.{shown_form}
-use Rattle.num_theory.specs.Making.{IsWellMade}
+use Rattle.num_theory.specs.working.Making.{IsWellMade}
 use Rattle.num_theory.proofs.FormValues.{forms_keep_values, shown_forms_keep_values}
 use Rattle.num_theory.proofs.WellMade.{form_well}
 use Rattle.num_theory.proofs.linear_form.linear.Goals as goal

@@ -5,7 +5,7 @@ use Rattle.std.proofs.lemmas.Int.{to_z-of_z}
 use Rattle.std.proofs.lemmas.Result.{on_ok_weaker}
 use Rattle.num_theory.specs.Number.{exact, is_zero}
 use Rattle.num_theory.specs.Linear.{Product, insert_product, text_before}
-use Rattle.num_theory.specs.Making.{text_of_product}
+use Rattle.num_theory.specs.working.Making.{text_of_product}
 use Rattle.num_theory.proofs.Placing.{insert_product-at, map_insert, place_in_texts}
 use Rattle.num_theory.proofs.linear_form.place.Goals as goal
 

@@ -5,7 +5,7 @@ use Rattle.res_lexer.specs.declared.pieces.Piece.{Piece}
 use Rattle.res_lexer.specs.declared.pieces.Piece.TheVariants as found
 use Rattle.res_lexer.specs.Pieces.{piece_at}
 use Rattle.res_lexer.specs.Tokens.{RefusesOrNoMemory}
-use Rattle.res_lexer.specs.Working.{IsBreach, IsPiece}
+use Rattle.res_lexer.specs.working.Found.{IsBreach, IsPiece}
 use Rattle.res_lexer.proofs.Readings.{HasRead, has_read_none, has_read_gap, has_read_token, refused}
 use Rattle.res_lexer.proofs.lexer.read.Goals as goal
 

@@ -5,7 +5,7 @@ use Rattle.res_lexer.specs.declared.token.LexError.{LexError}
 use Rattle.res_lexer.specs.declared.pieces.Piece as found
 use Rattle.res_lexer.specs.Pieces.{first_passes, begins, is_blank, is_digit, comment, word, literal, bracket_comment_len, line_comment_len}
 use Rattle.res_lexer.specs.Pieces as spec
-use Rattle.res_lexer.specs.Working.{Answers}
+use Rattle.res_lexer.specs.working.Found.{Answers}
 use Rattle.res_lexer.proofs.Choices.{at_blank, at_line, at_bracket, at_word, at_literal, at_symbol}
 use Rattle.res_lexer.proofs.Digits.{front_literal}
 use Rattle.res_lexer.proofs.Lists.{first_is}

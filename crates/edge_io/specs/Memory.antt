@@ -1,5 +1,5 @@
 -- What the forms in memory hold, and which of their calls fail.
-use Rattle.std.specs.Prelude.{◌≡◌, ℕ, ◌+◌, ◌-◌, ◌^◌, ◌<◌, Bool, true, false, List, [], ◌∷◌, if◌then◌else◌, slice_get, take, Option, Some, None}
+use Rattle.std.specs.Prelude.{◌≡◌, ℕ, ◌+◌, ◌-◌, ◌^◌, ◌<◌, Bool, true, false, List, [], ◌∷◌, if◌then◌else◌, Option, Some, None}
 use Rattle.std.specs.List.{Contains}
 use Rattle.std.specs.Str.{bytes_eq}
 use Rattle.edge_io.specs.Files.{Files}
@@ -18,7 +18,3 @@ Fails failing calls = (calls < 2 ^ 32 - 1) × Contains failing (calls + 1)
 abbrev pub files_of : List (List ℕ × List ℕ) → Files
 files_of [] name = None
 files_of (file ∷ files) name = if bytes_eq file.0 name then Some file.1 else files_of files name
-
--- a place of a list is that of the first file of a name
-abbrev pub IsFirst : List (List ℕ × List ℕ) → List ℕ → ℕ → Type 0
-IsFirst files name at = (files_of (take at files) name ≡ None) × ((bytes : List ℕ) × (slice_get files at ≡ Some (name, bytes)))

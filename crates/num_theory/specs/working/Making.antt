@@ -1,7 +1,6 @@
 -- Forms as the code has them.
-use Rattle.std.specs.Prelude.{◌≡◌, ℕ, ℤ, true, List, Option, Some, None}
+use Rattle.std.specs.Prelude.{◌≡◌, ℕ, true, List}
 use Rattle.num_theory.specs.declared.forms.RawForm.{RawForm}
-use Rattle.num_theory.specs.declared.table.LinearForm.{LinearForm}
 use Rattle.num_theory.specs.Number.{is_narrow}
 use Rattle.num_theory.specs.Linear.{Form, Product, narrow_products}
 use Rattle.num_theory.specs.Texts.{text}
@@ -15,8 +14,3 @@ IsWellMade f = f.is_narrow ≡ true → (narrow_products f.products ≡ true) ×
 
 abbrev pub text_of_product : Product → List ℕ
 text_of_product p = text p.1
-
--- a linear form that there may be, as products and constant
-abbrev pub linear_shown : Option LinearForm → Option (List Product × ℤ)
-linear_shown None = None
-linear_shown (Some f) = Some (f.products, f.constant)
