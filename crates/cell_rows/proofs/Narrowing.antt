@@ -13,7 +13,7 @@ use Rattle.math_terms.specs.Sorts.{is_z}
 use Rattle.num_theory.specs.Lines.{narrow}
 use Rattle.num_theory.specs.declared.number.Number.TheVariants.{Exact}
 use Rattle.num_theory.specs.Linear.{Form, Product, RawProduct, exact_product, formed, in_text_order, insert_product, linear_of, narrow_products, shown, shown_form, text_before}
-use Rattle.num_theory.specs.Making.{IsWellMade}
+use Rattle.num_theory.specs.working.Making.{IsWellMade}
 use Rattle.num_theory.specs.Number.{exact, is_narrow}
 use Rattle.num_theory.specs.Naming.{find_row, most_atoms, rows_at_hand}
 use Rattle.num_theory.specs.Table.{Sum, facts_of}

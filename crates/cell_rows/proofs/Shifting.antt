@@ -3,7 +3,7 @@ use Rattle.std.proofs.Common.{◌≡◌, ◌∙◌, sym, ap, refl, subst, ℤ, �
 use Rattle.std.proofs.lemmas.Bool.{false≢true}
 use Rattle.num_theory.specs.declared.number.Number.TheVariants.{Exact, Lost}
 use Rattle.num_theory.specs.Linear.{Form, shown, shown_form}
-use Rattle.num_theory.specs.Making.{IsWellMade}
+use Rattle.num_theory.specs.working.Making.{IsWellMade}
 use Rattle.num_theory.specs.Number.{exact, fits, is_narrow, kept, sum}
 use Rattle.num_theory.specs.Rows.{narrow}
 use Rattle.num_theory.proofs.Integers.{fits_within, narrow_magnitude}

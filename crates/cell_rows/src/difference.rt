@@ -4,7 +4,7 @@ ghost use Rattle.std.specs.Prelude.{◌≡◌, ◌+◌, ◌≤◌, ℕ, IfOk, If
 ghost use Rattle.math_terms.specs.declared.term.Term.{Term};
 ghost use Rattle.math_terms.specs.Terms.{nodes};
 ghost use Rattle.num_theory.specs.Linear as spec;
-ghost use Rattle.num_theory.specs.Making.{IsWellMade};
+ghost use Rattle.num_theory.specs.working.Making.{IsWellMade};
 ghost use Rattle.term_cells.specs.Standing.{stands, stands_below};
 ghost use Rattle.cell_rows.specs.Forms.{FormStands};
 ghost use Rattle.cell_rows.specs.RowsStand.{RowOrShort, RowStands, difference_row, shifted};

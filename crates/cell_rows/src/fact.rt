@@ -16,14 +16,9 @@ ghost use Rattle.cell_rows.specs.Sequents.{SameRoom};
 use crate::difference::{CellRow, Short, minus};
 use crate::forms::{CellForm, atom_form, constant_form, form_below, multiple, plus};
 use crate::sheet::Sheet;
+use math_terms::Form;
 use num_theory::Number;
 use term_cells::{Cell, Cells};
-
-const NUM: u8 = 0;
-
-const DIV: u8 = 8;
-
-const LEN: u8 = 10;
 
 /// The number at a place, 0 where there is another term.
 fn literal(cells: &Cells, p: u32) -> i64
@@ -32,7 +27,7 @@ fn literal(cells: &Cells, p: u32) -> i64
     let Some(cell) = cells.at(p) else {
         return 0;
     };
-    if cell.form == NUM { cell.own } else { 0 }
+    if cell.is(Form::Num) { cell.own } else { 0 }
 }
 
 /// How many facts there are on the atom at a place.
@@ -43,10 +38,10 @@ pub(crate) fn count_facts(cells: &Cells, p: u32) -> u32
     let Some(cell) = cells.at(p) else {
         return 0;
     };
-    if cell.form == LEN {
+    if cell.is(Form::Len) {
         return 1;
     }
-    if cell.form == DIV {
+    if cell.is(Form::Div) {
         return if literal(cells, cell.b) > 0 { 2 } else { 0 };
     }
     0
@@ -78,7 +73,7 @@ fn form_of_fact(cells: &Cells, p: u32, k: u32, marks: &mut [(Number, u32)]) -> O
     ensures form { (t f : Term) → stands cells.now.0 t p ≡ true → slice_get (facts_of t) k ≡ Some f → FormOrShort cells.now.0 (fact_form f) (nodes t) result marks.new }
 {
     let cell = cells.at(p)?;
-    if cell.form == LEN {
+    if cell.is(Form::Len) {
         return atom_form(p, marks);
     }
     let number = literal(cells, cell.b);

@@ -13,20 +13,11 @@ ghost use Rattle.term_cells.specs.Standing.{stands, stands_below, quotient_stand
 ghost use Rattle.term_cells.specs.declared.cell.Cell as shape;
 ghost use Rattle.cell_rows.specs.Forms.{FormOrShort, FormStands, Mark, RawStand, scaled_mark};
 
+use math_terms::Form;
 use num_theory::Number;
 use term_cells::{Cell, Cells};
 
 pub(crate) const MINUS_ONE: Number = Number::Exact(-1);
-
-const NUM: u8 = 0;
-
-const ADD: u8 = 5;
-
-const SUB: u8 = 6;
-
-const MUL: u8 = 7;
-
-const MOD: u8 = 9;
 
 /// How many products a form has, its constant, and whether it is narrow.
 #[derive(Clone, Copy)]
@@ -208,19 +199,19 @@ pub(crate) fn form(cells: &Cells, p: u32, marks: &mut [(Number, u32)]) -> Option
     ensures form { (t : Term) → stands cells.now.0 t p ≡ true → FormOrShort cells.now.0 (spec.formed t).1 (nodes t) result marks.new }
 {
     let cell = cells.at(p)?;
-    if cell.form == NUM {
+    if cell.is(Form::Num) {
         return Some(constant_form(cell.own));
     }
-    if cell.form == ADD {
+    if cell.is(Form::Add) {
         return sum_form(cells, p, cell, marks);
     }
-    if cell.form == SUB {
+    if cell.is(Form::Sub) {
         return difference_form(cells, p, cell, marks);
     }
-    if cell.form == MUL {
+    if cell.is(Form::Mul) {
         return product_form(cells, p, cell, marks);
     }
-    if cell.form == MOD {
+    if cell.is(Form::Mod) {
         return remainder_form(cells, p, cell, marks);
     }
     atom_form(p, marks)
@@ -302,7 +293,7 @@ fn remainder_form(
     ensures form { (t u : Term) → stands cells.now.0 (roll-Term (Term-F.Mod t u)) p ≡ true → stands cells.now.0 (roll-Term (Term-F.Div t u)) cell.c ≡ true → stands_below (stands cells.now.0 t) cell.a p ≡ true → stands_below (stands cells.now.0 u) cell.b p ≡ true → FormOrShort cells.now.0 (spec.remainder_form (spec.formed t) (spec.formed u)) (1 + nodes t + nodes u) result marks.new }
 {
     let divisor = cells.at(cell.b)?;
-    if divisor.form != NUM {
+    if !divisor.is(Form::Num) {
         return atom_form(p, marks);
     }
     if divisor.own <= 0 {

@@ -14,13 +14,8 @@ ghost use Rattle.cell_rows.specs.Sequents.{SameRoom};
 use crate::difference::{CellRow, Short, exchange};
 use crate::sequent::CellSequent;
 use crate::sheet::Sheet;
+use math_terms::Form;
 use term_cells::Cell;
-
-const EQ: u8 = 18;
-
-const LESS: u8 = 19;
-
-const LESS_EQ: u8 = 20;
 
 /// Which row of a formula: an equation has a second one.
 #[derive(Clone, Copy, Debug)]
@@ -58,13 +53,13 @@ impl<'a> CellSequent<'a> {
         let Some(cell) = self.cells.at(p) else {
             return Ok(None);
         };
-        if cell.form == LESS_EQ {
+        if cell.is(Form::LessEq) {
             return sheet.comparison_row(self.cells, p, cell, 0);
         }
-        if cell.form == LESS {
+        if cell.is(Form::Less) {
             return sheet.comparison_row(self.cells, p, cell, -1);
         }
-        if cell.form == EQ {
+        if cell.is(Form::Eq) {
             return self.equation_row(p, cell, sheet);
         }
         Ok(None)
@@ -80,7 +75,7 @@ impl<'a> CellSequent<'a> {
         let Some(cell) = self.cells.at(p) else {
             return Ok(None);
         };
-        if cell.form == EQ {
+        if cell.is(Form::Eq) {
             return self.equation_row(p, exchange(cell), sheet);
         }
         Ok(None)
@@ -109,10 +104,10 @@ impl<'a> CellSequent<'a> {
         let Some(cell) = self.cells.at(self.goal) else {
             return Ok(None);
         };
-        if cell.form == LESS {
+        if cell.is(Form::Less) {
             return sheet.comparison_row(self.cells, self.goal, exchange(cell), 0);
         }
-        if cell.form == LESS_EQ {
+        if cell.is(Form::LessEq) {
             return sheet.comparison_row(self.cells, self.goal, exchange(cell), -1);
         }
         Ok(None)

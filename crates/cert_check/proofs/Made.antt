@@ -3,6 +3,8 @@ use Rattle.std.proofs.Common.{◌≡◌, ◌∙◌, ap, refl, ℕ, ℤ, pos, tru
 use Rattle.math_terms.specs.declared.term.Term.{Term}
 use Rattle.math_terms.specs.declared.term.Term.TheOpen.{Term-F}
 use Rattle.math_terms.specs.declared.term.Term.TheViews.{roll-Term}
+use Rattle.math_terms.specs.declared.form.Form.{Form}
+use Rattle.math_terms.specs.Forms.{form_number}
 use Rattle.term_cells.specs.declared.cell.Cell.{Cell}
 use Rattle.term_cells.specs.Growing.{HasHead, IsFewForm, Pushes, StandsAs, StandsThere, Store}
 use Rattle.term_cells.specs.Laws.{StandingLasts}
@@ -35,10 +37,10 @@ and_not_made law old mid new c p q right r pushed one two t part =
     (two a (not_of b) first second)
 
 -- a form over the negations of two
-pub of_negations_made : StandingLasts → (old mid end : Store) (new : List Cell) (c d : Cell) (k p q left right : ℕ) (r : Option ℕ) → Pushes old mid c (Some left) → Pushes mid end d (Some right) →
+pub of_negations_made : StandingLasts → (old mid end : Store) (new : List Cell) (c d : Cell) (k : Form) (p q left right : ℕ) (r : Option ℕ) → Pushes old mid c (Some left) → Pushes mid end d (Some right) →
     ((t : Term) → stands old.0 t p ≡ true → StandsAs mid.0 21 (pos 0) (t ∷ []) (Some left)) →
     ((t : Term) → stands mid.0 t q ≡ true → StandsAs end.0 21 (pos 0) (t ∷ []) (Some right)) →
-    ((t u : Term) → stands end.0 t left ≡ true → stands end.0 u right ≡ true → StandsAs new k (pos 0) (t ∷ u ∷ []) r) →
+    ((t u : Term) → stands end.0 t left ≡ true → stands end.0 u right ≡ true → StandsAs new (form_number k) (pos 0) (t ∷ u ∷ []) r) →
     (t : Term) → PartIs old.0 (OfNegations k p q) t → StandsThere new t r
 of_negations_made law old mid end new c d k p q left right r pushed pushed_next one one_next two t part =
     let a = part.0 in
@@ -46,10 +48,10 @@ of_negations_made law old mid end new c d k p q left right r pushed pushed_next 
     let over = part.4 in
     let first : stands end.0 (not_of a) left ≡ true = lasting law mid end d right pushed_next (not_of a) left (not_stands mid.0 a left (one a part.2)) in
     let second : stands end.0 (not_of b) right ≡ true = not_stands end.0 b right (one_next b (lasting law old mid c left pushed b q part.3)) in
-    there new k (pos 0) (not_of a ∷ not_of b ∷ []) over.0 t r over.1 over.2 over.3 (two (not_of a) (not_of b) first second)
+    there new (form_number k) (pos 0) (not_of a ∷ not_of b ∷ []) over.0 t r over.1 over.2 over.3 (two (not_of a) (not_of b) first second)
 
 -- a form over two
-pub two_made : (old new : List Cell) (k p q : ℕ) (r : Option ℕ) → ((t u : Term) → stands old t p ≡ true → stands old u q ≡ true → StandsAs new k (pos 0) (t ∷ u ∷ []) r) → (t : Term) → PartIs old (Two k p q) t → StandsThere new t r
+pub two_made : (old new : List Cell) (k : Form) (p q : ℕ) (r : Option ℕ) → ((t u : Term) → stands old t p ≡ true → stands old u q ≡ true → StandsAs new (form_number k) (pos 0) (t ∷ u ∷ []) r) → (t : Term) → PartIs old (Two k p q) t → StandsThere new t r
 two_made old new k p q r two t part =
     let over = part.4 in
-    there new k (pos 0) (part.0 ∷ part.1 ∷ []) over.0 t r over.1 over.2 over.3 (two part.0 part.1 part.2 part.3)
+    there new (form_number k) (pos 0) (part.0 ∷ part.1 ∷ []) over.0 t r over.1 over.2 over.3 (two part.0 part.1 part.2 part.3)

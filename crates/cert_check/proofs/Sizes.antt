@@ -6,6 +6,8 @@ use Rattle.std.proofs.lemmas.Bool.Decides.{nat_tests}
 use Rattle.math_terms.specs.declared.term.Term.{Term}
 use Rattle.math_terms.specs.declared.term.Term.TheOpen.{Term-F}
 use Rattle.math_terms.specs.declared.term.Term.TheFolds.{fold-roll-Term}
+use Rattle.math_terms.specs.declared.form.Form.{Form}
+use Rattle.math_terms.specs.Forms.{form_number}
 use Rattle.math_terms.specs.Terms.{nodes, nodes_step}
 use Rattle.vc_sequents.specs.Splitting as rule
 use Rattle.cert_check.specs.working.Cases.{IsOver}
@@ -43,10 +45,10 @@ not_small r a t e h = below_number r (nodes a) h ∙ small_by (1 + nodes a) t (a
 counted_small : (m n : ℕ) (t : Term) → nodes t ≡ m → n ≡ m → leb n 10000 ≡ is_small t
 counted_small m n t e h = small_by n t (e ∙ sym h)
 
-pub over_small : (k : ℕ) (a b t : Term) → IsOver k a b t → leb (nodes a + nodes b + 1) 10000 ≡ is_small t
+pub over_small : (k : Form) (a b t : Term) → IsOver (form_number k) a b t → leb (nodes a + nodes b + 1) 10000 ≡ is_small t
 over_small k a b t h = counted_small (1 + nodes a + nodes b) (nodes a + nodes b + 1) t h.4 (omega arith)
 
-pub negations_small : (k : ℕ) (a b t : Term) → IsOver k (rule.not a) (rule.not b) t → leb (nodes a + nodes b + 3) 10000 ≡ is_small t
+pub negations_small : (k : Form) (a b t : Term) → IsOver (form_number k) (rule.not a) (rule.not b) t → leb (nodes a + nodes b + 3) 10000 ≡ is_small t
 negations_small k a b t h =
     counted_small (1 + nodes (rule.not a) + nodes (rule.not b)) (nodes a + nodes b + 3) t h.4 (omega (arith, not_nodes a, not_nodes b))
 

@@ -2,12 +2,14 @@
 use Rattle.std.proofs.Common.{◌≡◌, ◌∙◌, sym, ap, refl, subst, ℕ, pos, Bool, true, false, not, List, [], ◌∷◌, Option, Some, None, slice_get}
 use Rattle.std.specs.Prelude.{if◌then◌else◌}
 use Rattle.std.specs.Ordering.{int_eq}
+use Rattle.std.proofs.lemmas.Option.{same_Some}
 use Rattle.math_terms.specs.declared.descriptor.Sort.{Sort}
 use Rattle.math_terms.specs.declared.term.Term.{Term}
 use Rattle.math_terms.specs.declared.term.Term.TheOpen.{Term-F}
 use Rattle.math_terms.specs.declared.term.Term.TheViews.{out-Term}
 use Rattle.math_terms.specs.declared.term.Term.TheFolds.{fold-roll-Term}
-use Rattle.math_terms.specs.Heads.{form}
+use Rattle.math_terms.specs.declared.form.Form.{Form}
+use Rattle.math_terms.specs.Forms.{form, form_number}
 use Rattle.math_terms.specs.Terms.{nodes_step}
 use Rattle.term_cells.specs.declared.cell.Cell.{Cell}
 use Rattle.term_cells.specs.Growing.{IsFewForm}
@@ -40,7 +42,7 @@ or_over a b = (Term-F.Or a b, record { form_is = refl; own_is = refl; children_a
 implies_over : (a b : Term) → IsOver 24 a b (rule.implies a b)
 implies_over a b = (Term-F.Implies a b, record { form_is = refl; own_is = refl; children_are = refl }, (few 0).5, refl, fold-roll-Term ℕ nodes_step (Term-F.Implies a b))
 
-other_hypothesis : (vars : List Sort) (x : Term-F Term) → (form x ≡ 1 → ⊥) → (form x ≡ 18 → ⊥) → (form x ≡ 21 → ⊥) → (form x ≡ 22 → ⊥) → (form x ≡ 23 → ⊥) → (form x ≡ 24 → ⊥) → rule.form_cases vars x ≡ None
+other_hypothesis : (vars : List Sort) (x : Term-F Term) → (form x ≡ Form.Truth → ⊥) → (form x ≡ Form.Eq → ⊥) → (form x ≡ Form.Not → ⊥) → (form x ≡ Form.And → ⊥) → (form x ≡ Form.Or → ⊥) → (form x ≡ Form.Implies → ⊥) → rule.form_cases vars x ≡ None
 other_hypothesis vars (Term-F.Truth b) f g h i j k = absurd (f refl)
 other_hypothesis vars (Term-F.Eq a b) f g h i j k = absurd (g refl)
 other_hypothesis vars (Term-F.Not a) f g h i j k = absurd (h refl)
@@ -49,7 +51,7 @@ other_hypothesis vars (Term-F.Or a b) f g h i j k = absurd (j refl)
 other_hypothesis vars (Term-F.Implies a b) f g h i j k = absurd (k refl)
 other_hypothesis vars x f g h i j k = refl
 
-other_negation : (vars : List Sort) (x : Term-F Term) → (form x ≡ 1 → ⊥) → (form x ≡ 18 → ⊥) → (form x ≡ 19 → ⊥) → (form x ≡ 20 → ⊥) → (form x ≡ 21 → ⊥) → (form x ≡ 22 → ⊥) → (form x ≡ 23 → ⊥) → (form x ≡ 24 → ⊥) → rule.negation_cases vars x ≡ None
+other_negation : (vars : List Sort) (x : Term-F Term) → (form x ≡ Form.Truth → ⊥) → (form x ≡ Form.Eq → ⊥) → (form x ≡ Form.Less → ⊥) → (form x ≡ Form.LessEq → ⊥) → (form x ≡ Form.Not → ⊥) → (form x ≡ Form.And → ⊥) → (form x ≡ Form.Or → ⊥) → (form x ≡ Form.Implies → ⊥) → rule.negation_cases vars x ≡ None
 other_negation vars (Term-F.Truth b) f g h i j k l m = absurd (f refl)
 other_negation vars (Term-F.Eq a b) f g h i j k l m = absurd (g refl)
 other_negation vars (Term-F.Less a b) f g h i j k l m = absurd (h refl)
@@ -60,7 +62,7 @@ other_negation vars (Term-F.Or a b) f g h i j k l m = absurd (l refl)
 other_negation vars (Term-F.Implies a b) f g h i j k l m = absurd (m refl)
 other_negation vars x f g h i j k l m = refl
 
-other_goal : (vars : List Sort) (x : Term-F Term) → (form x ≡ 18 → ⊥) → (form x ≡ 21 → ⊥) → (form x ≡ 22 → ⊥) → (form x ≡ 23 → ⊥) → (form x ≡ 24 → ⊥) → rule.form_goals vars x ≡ None
+other_goal : (vars : List Sort) (x : Term-F Term) → (form x ≡ Form.Eq → ⊥) → (form x ≡ Form.Not → ⊥) → (form x ≡ Form.And → ⊥) → (form x ≡ Form.Or → ⊥) → (form x ≡ Form.Implies → ⊥) → rule.form_goals vars x ≡ None
 other_goal vars (Term-F.Eq a b) g h i j k = absurd (g refl)
 other_goal vars (Term-F.Not a) g h i j k = absurd (h refl)
 other_goal vars (Term-F.And a b) g h i j k = absurd (i refl)
@@ -73,17 +75,24 @@ truth_negated vars true = refl
 truth_negated vars false = refl
 
 module _ (opens : StandingOpens) (cells : List Cell) (vars : List Sort) (t : Term) (at : ℕ) (c : Cell) (standing : stands cells t at ≡ true) (here : slice_get cells at ≡ Some c) where
-  other : (k : ℕ) → (c.form ≡ k → ⊥) → form (out-Term t) ≡ k → ⊥
-  other k h e = h (sym (form_told opens cells t at standing c here) ∙ e)
+  pub formless : ((g : Form) → c.form ≡ form_number g → ⊥) → ⊥
+  formless h = h (form (out-Term t)) (sym (form_told opens cells t at standing c here))
 
-  pub no_hypothesis : (c.form ≡ 1 → ⊥) → (c.form ≡ 18 → ⊥) → (c.form ≡ 21 → ⊥) → (c.form ≡ 22 → ⊥) → (c.form ≡ 23 → ⊥) → (c.form ≡ 24 → ⊥) → CasesAre cells None (rule.hypothesis_cases vars t)
-  no_hypothesis f g h i j k = other_hypothesis vars (out-Term t) (other 1 f) (other 18 g) (other 21 h) (other 22 i) (other 23 j) (other 24 k)
+  module _ (f : Form) (only : (g : Form) → c.form ≡ form_number g → Some f ≡ Some g) where
+    its_form : form (out-Term t) ≡ f
+    its_form = sym (same_Some f (form (out-Term t)) (only (form (out-Term t)) (sym (form_told opens cells t at standing c here))))
 
-  pub no_negation : (c.form ≡ 1 → ⊥) → (c.form ≡ 18 → ⊥) → (c.form ≡ 19 → ⊥) → (c.form ≡ 20 → ⊥) → (c.form ≡ 21 → ⊥) → (c.form ≡ 22 → ⊥) → (c.form ≡ 23 → ⊥) → (c.form ≡ 24 → ⊥) → CasesAre cells None (rule.negation_cases vars (out-Term t))
-  no_negation f g h i j k l m = other_negation vars (out-Term t) (other 1 f) (other 18 g) (other 19 h) (other 20 i) (other 21 j) (other 22 k) (other 23 l) (other 24 m)
+    other : (k : Form) → (f ≡ k → ⊥) → form (out-Term t) ≡ k → ⊥
+    other k h e = h (sym its_form ∙ e)
 
-  pub no_goal : (c.form ≡ 18 → ⊥) → (c.form ≡ 21 → ⊥) → (c.form ≡ 22 → ⊥) → (c.form ≡ 23 → ⊥) → (c.form ≡ 24 → ⊥) → GoalCasesAre cells None (rule.goal_cases vars t)
-  no_goal g h i j k = other_goal vars (out-Term t) (other 18 g) (other 21 h) (other 22 i) (other 23 j) (other 24 k)
+    pub no_hypothesis : (f ≡ Form.Truth → ⊥) → (f ≡ Form.Eq → ⊥) → (f ≡ Form.Not → ⊥) → (f ≡ Form.And → ⊥) → (f ≡ Form.Or → ⊥) → (f ≡ Form.Implies → ⊥) → CasesAre cells None (rule.hypothesis_cases vars t)
+    no_hypothesis g h i j k l = other_hypothesis vars (out-Term t) (other Form.Truth g) (other Form.Eq h) (other Form.Not i) (other Form.And j) (other Form.Or k) (other Form.Implies l)
+
+    pub no_negation : (f ≡ Form.Truth → ⊥) → (f ≡ Form.Eq → ⊥) → (f ≡ Form.Less → ⊥) → (f ≡ Form.LessEq → ⊥) → (f ≡ Form.Not → ⊥) → (f ≡ Form.And → ⊥) → (f ≡ Form.Or → ⊥) → (f ≡ Form.Implies → ⊥) → CasesAre cells None (rule.negation_cases vars (out-Term t))
+    no_negation g h i j k l m n = other_negation vars (out-Term t) (other Form.Truth g) (other Form.Eq h) (other Form.Less i) (other Form.LessEq j) (other Form.Not k) (other Form.And l) (other Form.Or m) (other Form.Implies n)
+
+    pub no_goal : (f ≡ Form.Eq → ⊥) → (f ≡ Form.Not → ⊥) → (f ≡ Form.And → ⊥) → (f ≡ Form.Or → ⊥) → (f ≡ Form.Implies → ⊥) → GoalCasesAre cells None (rule.goal_cases vars t)
+    no_goal g h i j k = other_goal vars (out-Term t) (other Form.Eq g) (other Form.Not h) (other Form.And i) (other Form.Or j) (other Form.Implies k)
 
 module _ (leaves : LeavesOpen) (cells : List Cell) (vars : List Sort) (t : Term) (at : ℕ) (c : Cell) (standing : stands cells t at ≡ true) (here : slice_get cells at ≡ Some c) (k : c.form ≡ 1) where
   form_truth : (b : Bool) → CasesAre cells (if b then Some (split.One Nothing) else None) (rule.form_cases vars (Term-F.Truth b))
@@ -146,13 +155,13 @@ module _ (two : TwoOpens) (cells : List Cell) (vars : List Sort) (t : Term) (at 
       let o = equations k in
       subst (λ (x : Term-F Term). CasesAre cells r (rule.negation_cases vars x)) (sym o.term_is) (h o.left o.right o.left_is o.right_is)
 
-  pub and_negation : c.form ≡ 22 → CasesAre cells (Some (split.One (Only (OfNegations 23 c.a c.b)))) (rule.negation_cases vars (out-Term t))
+  pub and_negation : c.form ≡ 22 → CasesAre cells (Some (split.One (Only (OfNegations Form.Or c.a c.b)))) (rule.negation_cases vars (out-Term t))
   and_negation k =
       let o = ands k in
       let f = rule.or (rule.not o.left) (rule.not o.right) in
       (f ∷ [], (f, (o.left, o.right, o.left_is, o.right_is, or_over (rule.not o.left) (rule.not o.right)), refl), ap (rule.negation_cases vars) o.term_is)
 
-  pub or_negation : c.form ≡ 23 → CasesAre cells (Some (split.One (Only (OfNegations 22 c.a c.b)))) (rule.negation_cases vars (out-Term t))
+  pub or_negation : c.form ≡ 23 → CasesAre cells (Some (split.One (Only (OfNegations Form.And c.a c.b)))) (rule.negation_cases vars (out-Term t))
   or_negation k =
       let o = ors k in
       let f = rule.and (rule.not o.left) (rule.not o.right) in
@@ -164,13 +173,13 @@ module _ (two : TwoOpens) (cells : List Cell) (vars : List Sort) (t : Term) (at 
       let f = rule.and o.left (rule.not o.right) in
       (f ∷ [], (f, (o.left, o.right, o.left_is, o.right_is, refl), refl), ap (rule.negation_cases vars) o.term_is)
 
-  pub less_eq_negation : c.form ≡ 20 → CasesAre cells (Some (split.One (Only (Two 19 c.b c.a)))) (rule.negation_cases vars (out-Term t))
+  pub less_eq_negation : c.form ≡ 20 → CasesAre cells (Some (split.One (Only (Two Form.Less c.b c.a)))) (rule.negation_cases vars (out-Term t))
   less_eq_negation k =
       let o = less_eqs k in
       let f = rule.less o.right o.left in
       (f ∷ [], (f, (o.right, o.left, o.right_is, o.left_is, less_over o.right o.left), refl), ap (rule.negation_cases vars) o.term_is)
 
-  pub less_negation : c.form ≡ 19 → CasesAre cells (Some (split.One (Only (Two 20 c.b c.a)))) (rule.negation_cases vars (out-Term t))
+  pub less_negation : c.form ≡ 19 → CasesAre cells (Some (split.One (Only (Two Form.LessEq c.b c.a)))) (rule.negation_cases vars (out-Term t))
   less_negation k =
       let o = lesses k in
       let f = rule.less_eq o.right o.left in
@@ -228,7 +237,7 @@ module _ (cells : List Cell) (vars : List Sort) (p q : ℕ) (a b : Term) (left :
   unequal n v =
       if n then rule.two_cases (rule.less a b ∷ []) (rule.less b a ∷ []) else if v then rule.two_cases (a ∷ rule.not b ∷ []) (rule.not a ∷ b ∷ []) else None
 
-  pub unequal_numbers : rule.of_numbers vars a b ≡ true → CasesAre cells (Some (split.Two (Only (Two 19 p q)) (Only (Two 19 q p)))) (rule.negation_cases vars (Term-F.Eq a b))
+  pub unequal_numbers : rule.of_numbers vars a b ≡ true → CasesAre cells (Some (split.Two (Only (Two Form.Less p q)) (Only (Two Form.Less q p)))) (rule.negation_cases vars (Term-F.Eq a b))
   unfolding unequal
   unequal_numbers e =
       (rule.less a b ∷ [], rule.less b a ∷ [], (rule.less a b, (a, b, left, right, less_over a b), refl), (rule.less b a, (b, a, right, left, less_over b a), refl), ap (λ n. unequal n (rule.of_truths vars a b)) e)
@@ -245,12 +254,12 @@ module _ (cells : List Cell) (vars : List Sort) (p q : ℕ) (a b : Term) (left :
   equal : Bool → Bool → Option (List rule.GoalCase)
   equal n v = if n then rule.two_goals (rule.less_eq a b) (rule.less_eq b a) else if v then rule.two_goals (rule.implies a b) (rule.implies b a) else None
 
-  pub equal_number_goals : rule.of_numbers vars a b ≡ true → GoalCasesAre cells (Some (split.Two (Only (Two 20 p q)) (Only (Two 20 q p)))) (rule.form_goals vars (Term-F.Eq a b))
+  pub equal_number_goals : rule.of_numbers vars a b ≡ true → GoalCasesAre cells (Some (split.Two (Only (Two Form.LessEq p q)) (Only (Two Form.LessEq q p)))) (rule.form_goals vars (Term-F.Eq a b))
   unfolding equal
   equal_number_goals e =
       (([], rule.less_eq a b), ([], rule.less_eq b a), (rule.less_eq a b, (a, b, left, right, less_eq_over a b), refl), (rule.less_eq b a, (b, a, right, left, less_eq_over b a), refl), ap (λ n. equal n (rule.of_truths vars a b)) e)
 
-  pub equal_truth_goals : rule.of_numbers vars a b ≡ false → rule.of_truths vars a b ≡ true → GoalCasesAre cells (Some (split.Two (Only (Two 24 p q)) (Only (Two 24 q p)))) (rule.form_goals vars (Term-F.Eq a b))
+  pub equal_truth_goals : rule.of_numbers vars a b ≡ false → rule.of_truths vars a b ≡ true → GoalCasesAre cells (Some (split.Two (Only (Two Form.Implies p q)) (Only (Two Form.Implies q p)))) (rule.form_goals vars (Term-F.Eq a b))
   unfolding equal
   equal_truth_goals e f =
       (([], rule.implies a b), ([], rule.implies b a), (rule.implies a b, (a, b, left, right, implies_over a b), refl), (rule.implies b a, (b, a, right, left, implies_over b a), refl), (λ i. equal (e i) (f i)))

@@ -1,5 +1,6 @@
 -- The tests of formulas, told by the cells in which they stand.
-use Rattle.std.proofs.Common.{◌≡◌, ◌∙◌, sym, ap, refl, ℕ, suc, zero, pos, Bool, true, false, not, ◌↔◌, List, [], ◌∷◌, Option, Some, None, slice_get, IsTrue}
+use Rattle.std.proofs.Common.{◌≡◌, ◌∙◌, sym, ap, refl, ℕ, suc, zero, ◌==◌, pos, Bool, true, false, not, ◌↔◌, List, [], ◌∷◌, Option, Some, None, slice_get, IsTrue}
+use Rattle.std.proofs.lemmas.Bool.{eqb-false, eqb-true}
 use Rattle.std.proofs.lemmas.Option.{same_Some}
 use Rattle.std.specs.Ordering.{int_eq}
 use Rattle.math_terms.specs.declared.term.Term.{Term}
@@ -53,37 +54,37 @@ module _ (opens : StandingOpens) (cells : List Cell) (t : Term) (at : ℕ) (stan
       let same : o.0 ≡ c = same_Some o.0 c (sym o.1 ∙ here) in
       o.2.form_is ∙ ap (λ (d : Cell). d.form) same
 
-  other_form : (c : Cell) (k : ℕ) → slice_get cells at ≡ Some c → (c.form ≡ k → ⊥) → form (out-Term t) ≡ k → ⊥
-  other_form c k here h e = h (sym (form_told c here) ∙ e)
+  other_form : (c : Cell) (k : ℕ) → slice_get cells at ≡ Some c → false ≡ (c.form == k) → form (out-Term t) ≡ k → ⊥
+  other_form c k here h e = eqb-false c.form k (sym h) (sym (form_told c here) ∙ e)
 
-  pub not_true : (c : Cell) → slice_get cells at ≡ Some c → (c.form ≡ 1 → ⊥) → is_true t ≡ false
+  pub not_true : (c : Cell) → slice_get cells at ≡ Some c → false ≡ (c.form == 1) → is_true t ≡ false
   not_true c here h = true_form_other (out-Term t) (other_form c 1 here h)
 
-  pub not_false : (c : Cell) → slice_get cells at ≡ Some c → (c.form ≡ 1 → ⊥) → is_false t ≡ false
+  pub not_false : (c : Cell) → slice_get cells at ≡ Some c → false ≡ (c.form == 1) → is_false t ≡ false
   not_false c here h = false_form_other (out-Term t) (other_form c 1 here h)
 
-  pub not_identity : (c : Cell) → slice_get cells at ≡ Some c → (c.form ≡ 18 → ⊥) → is_identity t ≡ false
+  pub not_identity : (c : Cell) → slice_get cells at ≡ Some c → false ≡ (c.form == 18) → is_identity t ≡ false
   not_identity c here h = identity_form_other (out-Term t) (other_form c 18 here h)
 
-  pub not_negation : (f : Term) (c : Cell) → slice_get cells at ≡ Some c → (c.form ≡ 21 → ⊥) → is_negation_of f t ≡ false
+  pub not_negation : (f : Term) (c : Cell) → slice_get cells at ≡ Some c → false ≡ (c.form == 21) → is_negation_of f t ≡ false
   not_negation f c here h = negation_form_other f (out-Term t) (other_form c 21 here h)
 
-  pub true_told : LeavesOpen → (c : Cell) → slice_get cells at ≡ Some c → c.form ≡ 1 → is_true t ≡ int_eq c.own (pos 1)
-  true_told leaves c here k = ap true_form (leaves.truth cells t at c here k standing)
+  pub true_told : LeavesOpen → (c : Cell) → slice_get cells at ≡ Some c → true ≡ (c.form == 1) → is_true t ≡ int_eq c.own (pos 1)
+  true_told leaves c here k = ap true_form (leaves.truth cells t at c here (eqb-true c.form 1 (sym k)) standing)
 
-  pub false_told : LeavesOpen → (c : Cell) → slice_get cells at ≡ Some c → c.form ≡ 1 → is_false t ≡ not (int_eq c.own (pos 1))
-  false_told leaves c here k = ap false_form (leaves.truth cells t at c here k standing) ∙ false_form_truth (int_eq c.own (pos 1))
+  pub false_told : LeavesOpen → (c : Cell) → slice_get cells at ≡ Some c → true ≡ (c.form == 1) → is_false t ≡ not (int_eq c.own (pos 1))
+  false_told leaves c here k = ap false_form (leaves.truth cells t at c here (eqb-true c.form 1 (sym k)) standing) ∙ false_form_truth (int_eq c.own (pos 1))
 
-  pub identity_told : TwoOpens → SameTermsAreEqual → (c : Cell) → slice_get cells at ≡ Some c → c.form ≡ 18 → (answer : Bool) →
+  pub identity_told : TwoOpens → SameTermsAreEqual → (c : Cell) → slice_get cells at ≡ Some c → true ≡ (c.form == 18) → (answer : Bool) →
       ((u v : Term) → stands cells u c.a ≡ true → stands cells v c.b ≡ true → (IsTrue answer ↔ (u ≡ v))) → answer ≡ is_identity t
   identity_told two law c here k answer h =
-      let o = two Term-F.Eq 18 (λ a b. record { form_is = refl; own_is = refl; children_are = refl }) refl cells t at c here k standing in
+      let o = two Term-F.Eq 18 (λ a b. record { form_is = refl; own_is = refl; children_are = refl }) refl cells t at c here (eqb-true c.form 18 (sym k)) standing in
       same_told law o.left o.right answer (h o.left o.right o.left_is o.right_is) ∙ sym (ap identity_form o.term_is)
 
-  pub negation_told : OneOpens → SameTermsAreEqual → (f : Term) (c : Cell) → slice_get cells at ≡ Some c → c.form ≡ 21 → (answer : Bool) →
+  pub negation_told : OneOpens → SameTermsAreEqual → (f : Term) (c : Cell) → slice_get cells at ≡ Some c → true ≡ (c.form == 21) → (answer : Bool) →
       ((u : Term) → stands cells u c.a ≡ true → (IsTrue answer ↔ (f ≡ u))) → answer ≡ is_negation_of f t
   negation_told one law f c here k answer h =
-      let o = one Term-F.Not 21 (λ a. record { form_is = refl; own_is = refl; children_are = refl }) refl cells t at c here k standing in
+      let o = one Term-F.Not 21 (λ a. record { form_is = refl; own_is = refl; children_are = refl }) refl cells t at c here (eqb-true c.form 21 (sym k)) standing in
       same_told law f o.child answer (h o.child o.child_is) ∙ sym (ap (negation_form f) o.term_is)
 
 -- the term of a place among places

@@ -14,27 +14,11 @@ ghost use Rattle.term_cells.specs.Standing.{stands};
 ghost use Rattle.cert_check.specs.working.Cases.{CasesAre, FormulasAre, GoalCasesAre, GoalIs, PartIs, made};
 ghost use Rattle.cert_check.specs.Legality.{small_cases, small_goal_cases, is_small as is_small_term};
 
-use math_terms::{Desc, Name};
+use math_terms::{Desc, Form, Name};
 use term_cells::{Cell, Cells, leaves_open, one_opens, standing_lasts, standing_opens, two_opens};
 
 /// No formula may have more nodes.
 const MOST_NODES: u32 = 10_000;
-
-const TRUTH: u8 = 1;
-
-const EQ: u8 = 18;
-
-const LESS: u8 = 19;
-
-const LESS_EQ: u8 = 20;
-
-const NOT: u8 = 21;
-
-const AND: u8 = 22;
-
-const OR: u8 = 23;
-
-const IMPLIES: u8 = 24;
 
 /// A formula over what stands in cells: the one at a place, `true` or `false`, the negation of one, a form over two, a form over the
 /// negations of two, or the conjunction of one with the negation of another.
@@ -43,8 +27,8 @@ pub(crate) enum Part {
     At(u32),
     Truth(bool),
     Not(u32),
-    Two(u8, u32, u32),
-    OfNegations(u8, u32, u32),
+    Two(Form, u32, u32),
+    OfNegations(Form, u32, u32),
     AndNot(u32, u32),
 }
 
@@ -87,14 +71,15 @@ pub(crate) fn hypothesis_cases(cells: &Cells, vars: &[(Name, Desc)], p: u32) -> 
     leaves_open();
     standing_opens();
     let cell = cells.at(p)?;
+    let form = cell.node_form()?;
     let (a, b) = (cell.a, cell.b);
-    match cell.form {
-        TRUTH => truth_cases(says_true(cell)),
-        AND => Some(Cases::One(Case::Both(Part::At(a), Part::At(b)))),
-        OR => Some(Cases::Two(Case::Only(Part::At(a)), Case::Only(Part::At(b)))),
-        IMPLIES => Some(Cases::Two(Case::Only(Part::Not(a)), Case::Only(Part::At(b)))),
-        NOT => negation_cases(cells, vars, a),
-        EQ => equation_cases(cells, vars, a, b),
+    match form {
+        Form::Truth => truth_cases(says_true(cell)),
+        Form::And => Some(Cases::One(Case::Both(Part::At(a), Part::At(b)))),
+        Form::Or => Some(Cases::Two(Case::Only(Part::At(a)), Case::Only(Part::At(b)))),
+        Form::Implies => Some(Cases::Two(Case::Only(Part::Not(a)), Case::Only(Part::At(b)))),
+        Form::Not => negation_cases(cells, vars, a),
+        Form::Eq => equation_cases(cells, vars, a, b),
         _ => None,
     }
 }
@@ -139,16 +124,17 @@ fn negation_cases(cells: &Cells, vars: &[(Name, Desc)], p: u32) -> Option<Cases>
     leaves_open();
     standing_opens();
     let cell = cells.at(p)?;
+    let form = cell.node_form()?;
     let (a, b) = (cell.a, cell.b);
-    match cell.form {
-        TRUTH => Some(Cases::One(Case::Only(Part::Truth(!says_true(cell))))),
-        NOT => Some(Cases::One(Case::Only(Part::At(a)))),
-        AND => Some(Cases::One(Case::Only(Part::OfNegations(OR, a, b)))),
-        OR => Some(Cases::One(Case::Only(Part::OfNegations(AND, a, b)))),
-        IMPLIES => Some(Cases::One(Case::Only(Part::AndNot(a, b)))),
-        LESS_EQ => Some(Cases::One(Case::Only(Part::Two(LESS, b, a)))),
-        LESS => Some(Cases::One(Case::Only(Part::Two(LESS_EQ, b, a)))),
-        EQ => inequation_cases(cells, vars, a, b),
+    match form {
+        Form::Truth => Some(Cases::One(Case::Only(Part::Truth(!says_true(cell))))),
+        Form::Not => Some(Cases::One(Case::Only(Part::At(a)))),
+        Form::And => Some(Cases::One(Case::Only(Part::OfNegations(Form::Or, a, b)))),
+        Form::Or => Some(Cases::One(Case::Only(Part::OfNegations(Form::And, a, b)))),
+        Form::Implies => Some(Cases::One(Case::Only(Part::AndNot(a, b)))),
+        Form::LessEq => Some(Cases::One(Case::Only(Part::Two(Form::Less, b, a)))),
+        Form::Less => Some(Cases::One(Case::Only(Part::Two(Form::LessEq, b, a)))),
+        Form::Eq => inequation_cases(cells, vars, a, b),
         _ => None,
     }
 }
@@ -159,8 +145,8 @@ fn inequation_cases(cells: &Cells, vars: &[(Name, Desc)], a: u32, b: u32) -> Opt
 {
     if are_numbers(cells, vars, a, b) {
         return Some(Cases::Two(
-            Case::Only(Part::Two(LESS, a, b)),
-            Case::Only(Part::Two(LESS, b, a)),
+            Case::Only(Part::Two(Form::Less, a, b)),
+            Case::Only(Part::Two(Form::Less, b, a)),
         ));
     }
     if !are_truths(cells, vars, a, b) {
@@ -180,13 +166,14 @@ pub(crate) fn goal_cases(cells: &Cells, vars: &[(Name, Desc)], p: u32) -> Option
     two_opens();
     standing_opens();
     let cell = cells.at(p)?;
+    let form = cell.node_form()?;
     let (a, b) = (cell.a, cell.b);
-    match cell.form {
-        AND => Some(Cases::Two(Case::Only(Part::At(a)), Case::Only(Part::At(b)))),
-        OR => Some(Cases::One(Case::Both(Part::Not(a), Part::At(b)))),
-        IMPLIES => Some(Cases::One(Case::Both(Part::At(a), Part::At(b)))),
-        NOT => Some(Cases::One(Case::Both(Part::At(a), Part::Truth(false)))),
-        EQ => equal_goals(cells, vars, a, b),
+    match form {
+        Form::And => Some(Cases::Two(Case::Only(Part::At(a)), Case::Only(Part::At(b)))),
+        Form::Or => Some(Cases::One(Case::Both(Part::Not(a), Part::At(b)))),
+        Form::Implies => Some(Cases::One(Case::Both(Part::At(a), Part::At(b)))),
+        Form::Not => Some(Cases::One(Case::Both(Part::At(a), Part::Truth(false)))),
+        Form::Eq => equal_goals(cells, vars, a, b),
         _ => None,
     }
 }
@@ -197,14 +184,14 @@ fn equal_goals(cells: &Cells, vars: &[(Name, Desc)], a: u32, b: u32) -> Option<C
 {
     if are_numbers(cells, vars, a, b) {
         return Some(Cases::Two(
-            Case::Only(Part::Two(LESS_EQ, a, b)),
-            Case::Only(Part::Two(LESS_EQ, b, a)),
+            Case::Only(Part::Two(Form::LessEq, a, b)),
+            Case::Only(Part::Two(Form::LessEq, b, a)),
         ));
     }
     if are_truths(cells, vars, a, b) {
         return Some(Cases::Two(
-            Case::Only(Part::Two(IMPLIES, a, b)),
-            Case::Only(Part::Two(IMPLIES, b, a)),
+            Case::Only(Part::Two(Form::Implies, a, b)),
+            Case::Only(Part::Two(Form::Implies, b, a)),
         ));
     }
     None
@@ -264,22 +251,22 @@ pub(crate) fn make(cells: &mut Cells, part: Part) -> Option<u32>
 {
     match part {
         Part::At(p) => Some(p),
-        Part::Truth(b) => cells.leaf(TRUTH, i64::from(b)),
-        Part::Not(p) => cells.one(NOT, 0, p),
+        Part::Truth(b) => cells.leaf(Form::Truth, i64::from(b)),
+        Part::Not(p) => cells.one(Form::Not, 0, p),
         Part::Two(form, p, q) => cells.two(form, p, q),
         Part::OfNegations(form, p, q) => make_of_negations(cells, form, p, q),
         Part::AndNot(p, q) => make_and_not(cells, p, q),
     }
 }
 
-fn make_of_negations(cells: &mut Cells, form: u8, p: u32, q: u32) -> Option<u32>
+fn make_of_negations(cells: &mut Cells, form: Form, p: u32, q: u32) -> Option<u32>
     ensures standing { (t : Term) → PartIs cells.old.0 (Part.OfNegations form p q) t → StandsThere cells.new.0 t result }
     ensures grown { Grows cells.old cells.new 4 }
     ensures short { IfNone result (IsShort cells.old 4) }
 {
     standing_lasts();
-    let left = cells.one(NOT, 0, p)?;
-    let right = cells.one(NOT, 0, q)?;
+    let left = cells.one(Form::Not, 0, p)?;
+    let right = cells.one(Form::Not, 0, q)?;
     cells.two(form, left, right)
 }
 
@@ -289,6 +276,6 @@ fn make_and_not(cells: &mut Cells, p: u32, q: u32) -> Option<u32>
     ensures short { IfNone result (IsShort cells.old 3) }
 {
     standing_lasts();
-    let right = cells.one(NOT, 0, q)?;
-    cells.two(AND, p, right)
+    let right = cells.one(Form::Not, 0, q)?;
+    cells.two(Form::And, p, right)
 }

@@ -8,14 +8,8 @@ ghost use Rattle.cert_check.specs.Legality as rule;
 ghost use Rattle.term_cells.specs.Placed.{AllStand};
 ghost use Rattle.cert_check.specs.working.Path.{TestOfTerm, named};
 
-use math_terms::same_terms_are_equal;
+use math_terms::{Form, same_terms_are_equal};
 use term_cells::{Cells, leaves_open, one_opens, standing_opens, two_opens};
-
-const TRUTH: u8 = 1;
-
-const EQ: u8 = 18;
-
-const NOT: u8 = 21;
 
 /// Whether the formula at this place is `true`.
 pub(crate) fn is_true(cells: &Cells, p: u32) -> bool
@@ -24,7 +18,7 @@ pub(crate) fn is_true(cells: &Cells, p: u32) -> bool
     leaves_open();
     standing_opens();
     match cells.at(p) {
-        Some(cell) => cell.form == TRUTH && cell.own == 1,
+        Some(cell) => cell.is(Form::Truth) && cell.own == 1,
         None => false,
     }
 }
@@ -36,7 +30,7 @@ pub(crate) fn is_false(cells: &Cells, p: u32) -> bool
     leaves_open();
     standing_opens();
     match cells.at(p) {
-        Some(cell) => cell.form == TRUTH && cell.own != 1,
+        Some(cell) => cell.is(Form::Truth) && cell.own != 1,
         None => false,
     }
 }
@@ -49,7 +43,7 @@ pub(crate) fn is_identity(cells: &Cells, p: u32) -> bool
     standing_opens();
     same_terms_are_equal();
     match cells.at(p) {
-        Some(cell) => cell.form == EQ && cells.same(cell.a, cell.b),
+        Some(cell) => cell.is(Form::Eq) && cells.same(cell.a, cell.b),
         None => false,
     }
 }
@@ -62,7 +56,7 @@ pub(crate) fn is_negation_of(cells: &Cells, p: u32, q: u32) -> bool
     standing_opens();
     same_terms_are_equal();
     match cells.at(q) {
-        Some(cell) => cell.form == NOT && cells.same(p, cell.a),
+        Some(cell) => cell.is(Form::Not) && cells.same(p, cell.a),
         None => false,
     }
 }

@@ -1,10 +1,17 @@
 -- The tests of children, taken apart and put together.
-use Rattle.std.proofs.Common.{◌≡◌, ◌∙◌, ap, refl, ℕ, ◌==◌, ◌<◌, ltb, pos, Bool, true, ◌&&◌, List, [], ◌∷◌, Option, Some, None, slice_get}
+use Rattle.std.proofs.Common.{◌≡◌, ◌∙◌, sym, ap, refl, ℕ, ◌==◌, ◌<◌, ltb, pos, Bool, true, false, ◌&&◌, List, [], ◌∷◌, Option, Some, None, slice_get}
 use Rattle.std.specs.Ordering.{int_eq}
-use Rattle.std.proofs.lemmas.Bool.{and_parts, and_from, eqb-true, eq-eqb, ltb-true, lt-ltb, false≢true}
+use Rattle.std.proofs.lemmas.Bool.{and_parts, and_from, eqb-true, eqb-false, eq-eqb, ltb-true, lt-ltb, false≢true}
 use Rattle.std.proofs.lemmas.Bool.Decides.{Decides-int_eq}
 use Rattle.term_cells.specs.declared.cell.Cell.{Cell}
 use Rattle.term_cells.specs.Standing.{with_cell, stands_below, parts_stand, quotient_stands}
+
+-- what a test of two numbers tells
+pub holds : (k n : ℕ) → true ≡ (k == n) → k ≡ n
+holds k n h = eqb-true k n (sym h)
+
+pub fails : (k n : ℕ) → false ≡ (k == n) → k ≡ n → ⊥
+fails k n h = eqb-false k n (sym h)
 
 -- where a test of a cell passes, there is a cell
 pub there : (o : Option Cell) (test : Cell → Bool) → with_cell o test ≡ true → (c : Cell) × (o ≡ Some c) × (test c ≡ true)

@@ -1,5 +1,5 @@
 -- A node stands in the next cell.
-use Rattle.std.proofs.Common.{◌≡◌, ◌∙◌, sym, ap, refl, subst, ℕ, ◌==◌, Bool, true, false, ◌&&◌, List, [], ◌∷◌, ◌++◌, map, length, Option, Some, None, slice_get, if◌then◌else◌, arith}
+use Rattle.std.proofs.Common.{◌≡◌, ◌∙◌, sym, ap, refl, subst, ℕ, ◌==◌, ℤ, Bool, true, false, ◌&&◌, List, [], ◌∷◌, ◌++◌, map, length, Option, Some, None, slice_get, if◌then◌else◌, arith}
 use Rattle.std.proofs.lemmas.Bool.{and_from, true≢false}
 use Rattle.math_terms.specs.declared.term.Term.{Term}
 use Rattle.math_terms.specs.declared.term.Term.TheOpen.{Term-F}
@@ -61,6 +61,13 @@ few_next old new c at e f ts h x w few =
 
 child_stands : (cells : List Cell) (t : Term) (p : ℕ) → stands cells t p ≡ true → stands_below (stands cells t) p (length cells) ≡ true
 child_stands cells t p h = below_from (stands cells t) p (length cells) (stands_inside cells t p h) h
+
+pub pushes_as : (old new : Store) (c d : Cell) (r : Option ℕ) → c ≡ d → Pushes old new c r → Pushes old new d r
+pushes_as old new c d r e h = subst (λ x. Pushes old new x r) e h
+
+pub pushes_node : (old new : Store) (c : Cell) (r : Option ℕ) (k : ℕ) (n m : ℤ) (a b d : ℕ) → c ≡ record { form = k; own = n; a = a; b = b; c = d } → n ≡ m → Pushes old new c r →
+    Pushes old new (record { form = k; own = m; a = a; b = b; c = d }) r
+pushes_node old new c r k n m a b d e f h = pushes_as old new c (record { form = k; own = m; a = a; b = b; c = d }) r (e ∙ (λ i. record { form = k; own = f i; a = a; b = b; c = d })) h
 
 pub leaf_pushed : (old new : Store) (c : Cell) (r : Option ℕ) → Pushes old new c r → StandsAs new.0 c.form c.own [] r
 leaf_pushed old new c None h = tt

@@ -5,6 +5,7 @@ pub mod Counted
 pub mod DescKinds
 pub mod Falling
 pub mod Forms
+pub mod FormNumbers
 pub mod Apart
 pub mod Kinded
 pub mod Laid

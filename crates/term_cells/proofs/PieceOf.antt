@@ -1,11 +1,12 @@
 -- The pieces of what stands at places.
 use Rattle.std.proofs.Common.{◌≡◌, ◌∙◌, sym, ap, refl, subst, ℕ, suc, ◌==◌, ◌<◌, ◌≤◌, ltb, Bool, true, false, List, [], ◌∷◌, map, length, drop, Some, None, slice_get, codes, if◌then◌else◌, inl, inr, ⊎_elim, arith}
-use Rattle.std.proofs.lemmas.Bool.{eqb-true, ltb-true, lt-ltb, le-ltb}
+use Rattle.std.proofs.lemmas.Bool.{eqb-true, lt-ltb, le-ltb}
 use Rattle.std.proofs.lemmas.List.{drop_all, get_or_past, length-map}
 use Rattle.math_terms.specs.declared.term.Term.{Term}
-use Rattle.math_terms.specs.declared.term.Term.TheOpen.{Term-F}
 use Rattle.math_terms.specs.declared.term.Term.TheViews.{out-Term}
-use Rattle.math_terms.specs.Heads.{children, form}
+use Rattle.math_terms.specs.declared.form.Form.{Form}
+use Rattle.math_terms.specs.Forms.{form, form_number}
+use Rattle.math_terms.specs.Heads.{children}
 use Rattle.num_theory.specs.Texts.{Piece, at_least, listed}
 use Rattle.term_cells.specs.declared.cell.Cell.{Cell}
 use Rattle.term_cells.specs.declared.before.Next.{Next}
@@ -16,20 +17,18 @@ use Rattle.term_cells.specs.working.Pieces.{HasPieces, NextIs, Says, child_count
 use Rattle.term_cells.specs.Standing.{few_stand, parts_stand, stands, stands_below}
 use Rattle.term_cells.proofs.Apart.{below_parts}
 use Rattle.term_cells.proofs.Comparing.{end_cell, first_below, link_cell, parts_below, parts_inside, second_below, third_below}
+use Rattle.term_cells.proofs.FormNumbers.{NoForm, few_forms}
 use Rattle.term_cells.proofs.Forms.{children_counted}
 use Rattle.term_cells.proofs.Laid.{list_joined, operand_joined, term_joined}
 use Rattle.term_cells.proofs.Openings.{cell_of, not_there, opens}
 use Rattle.term_cells.proofs.Telling.{few_of, parts_of}
 
-small_form : {A : Type 0} (x : Term-F A) → ltb (form x) 26 ≡ true
-small_form (Term-F.Num n) = refl
-small_form x = refl
-
 -- the form of the cell where a term stands
-pub term_form : (cells : List Cell) (t : Term) (p : ℕ) (c : Cell) → slice_get cells p ≡ Some c → stands cells t p ≡ true → c.form < 26
-term_form cells t p c e h =
-    let n = opens cells t p c e h in
-    omega (arith, n.form_is, ltb-true (form (out-Term t)) 26 (small_form (out-Term t)))
+pub term_form : (cells : List Cell) (t : Term) (p : ℕ) (c : Cell) → slice_get cells p ≡ Some c → stands cells t p ≡ true → c.form ≡ form_number (form (out-Term t))
+term_form cells t p c e h = (opens cells t p c e h).form_is
+
+pub no_term : (cells : List Cell) (t : Term) (p : ℕ) (c : Cell) → slice_get cells p ≡ Some c → NoForm c.form → stands cells t p ≡ true → ⊥
+no_term cells t p c e f h = f (form (out-Term t)) (term_form cells t p c e h)
 
 -- what says these bytes is the piece of these bytes
 pub says_next : (cells : List Cell) (place : ℕ) (ps : List (List ℕ)) (k : ℕ) (r : Next) (bytes : List ℕ) → Says r bytes → bytes ≡ nth ps k → NextIs cells place ps k r
@@ -44,7 +43,7 @@ child_next : (cells : List Cell) (u : Term) (q place least : ℕ) (r : Next) →
 child_next cells u q place least r below h answer ps k e =
     let d = cell_of cells u q h in
     let n = opens cells u q d.0 d.1 h in
-    let w = ltb (strength (form (out-Term u))) least in
+    let w = ltb (strength (form_number (form (out-Term u)))) least in
     let same : r ≡ Child q w = answer d.0 d.1 ∙ ap (λ f. Child q (ltb (strength f) least)) n.form_is in
     let next : NextIs cells place ps k (Child q w) = (below, (term_pieces w u, inl (u, h, refl), operand_joined least u ∙ sym e)) in
     subst (λ s. NextIs cells place ps k s) (sym same) next
@@ -233,13 +232,13 @@ nothing_there cells p w ps e h =
         cc
 
 module _ (cells : List Cell) (p : ℕ) (w : Bool) (c : Cell) (at : slice_get cells p ≡ Some c) (ps : List (List ℕ)) (has : HasPieces cells p w ps) where
-  end_joined : (ts : List Term) (limit k : ℕ) → c.form ≡ 26 → parts_stand cells (map (stands cells) ts) p limit ≡ true → ps ≡ list_pieces ts → joined (drop k ps) ≡ []
+  end_joined : (ts : List Term) (limit k : ℕ) → (c.form ≡ 27 → ⊥) → parts_stand cells (map (stands cells) ts) p limit ≡ true → ps ≡ list_pieces ts → joined (drop k ps) ≡ []
   end_joined [] limit k f h e = ap (λ qs. joined (drop k qs)) e ∙ ap joined (drop_all k [] (omega arith))
-  end_joined (t ∷ ts) limit k f h e = absurd (omega (arith, (link_cell cells t ts p limit c at h).form_is))
+  end_joined (t ∷ ts) limit k f h e = absurd (f (link_cell cells t ts p limit c at h).form_is)
 
-  pub ends_here : (k : ℕ) → c.form ≡ 26 → joined (drop k ps) ≡ []
-  ends_here k f =
-      ⊎_elim (λ x. absurd (omega (arith, term_form cells x.0 p c at x.1))) (λ x. end_joined x.0 x.1.0 k f x.1.1 x.2) has
+  pub ends_here : (k : ℕ) → NoForm c.form → (c.form ≡ 27 → ⊥) → joined (drop k ps) ≡ []
+  ends_here k f g =
+      ⊎_elim (λ x. absurd (no_term cells x.0 p c at f x.1)) (λ x. end_joined x.0 x.1.0 k g x.1.1 x.2) has
 
   link_pieces : (ts : List Term) (limit k : ℕ) (r : Next) → c.form ≡ 27 → parts_stand cells (map (stands cells) ts) p limit ≡ true → ps ≡ list_pieces ts →
       ((limit : ℕ) (t : Term) (us : List Term) → parts_stand cells (map (stands cells) (t ∷ us)) p limit ≡ true → NextIs cells p (list_pieces (t ∷ us)) k r) → NextIs cells p ps k r
@@ -249,13 +248,13 @@ module _ (cells : List Cell) (p : ℕ) (w : Bool) (c : Cell) (at : slice_get cel
   pub list_here : (k : ℕ) (r : Next) → c.form ≡ 27 →
       ((limit : ℕ) (t : Term) (us : List Term) → parts_stand cells (map (stands cells) (t ∷ us)) p limit ≡ true → NextIs cells p (list_pieces (t ∷ us)) k r) → NextIs cells p ps k r
   list_here k r f answer =
-      ⊎_elim (λ x. absurd (omega (arith, term_form cells x.0 p c at x.1))) (λ x. link_pieces x.0 x.1.0 k r f x.1.1 x.2 answer) has
+      ⊎_elim (λ x. absurd (omega (arith, f, term_form cells x.0 p c at x.1, few_forms (form (out-Term x.0))))) (λ x. link_pieces x.0 x.1.0 k r f x.1.1 x.2 answer) has
 
-  no_list : (ts : List Term) (limit : ℕ) → (c.form ≡ 26 → ⊥) → (c.form ≡ 27 → ⊥) → parts_stand cells (map (stands cells) ts) p limit ≡ true → ⊥
-  no_list [] limit f g h = f (end_cell cells p limit c at h)
-  no_list (t ∷ ts) limit f g h = g (link_cell cells t ts p limit c at h).form_is
+  no_list : (ts : List Term) (limit : ℕ) → c.form < 26 → parts_stand cells (map (stands cells) ts) p limit ≡ true → ⊥
+  no_list [] limit l h = omega (arith, end_cell cells p limit c at h)
+  no_list (t ∷ ts) limit l h = omega (arith, (link_cell cells t ts p limit c at h).form_is)
 
-  pub term_here : (k : ℕ) (r : Next) → (c.form ≡ 26 → ⊥) → (c.form ≡ 27 → ⊥) →
+  pub term_here : (k : ℕ) (r : Next) (f : Form) → c.form ≡ form_number f →
       ((t : Term) → stands cells t p ≡ true → NextIs cells p (term_pieces w t) k r) → NextIs cells p ps k r
-  term_here k r f g answer =
-      ⊎_elim (λ x. subst (λ qs. NextIs cells p qs k r) (sym x.2) (answer x.0 x.1)) (λ x. absurd (no_list x.0 x.1.0 f g x.1.1)) has
+  term_here k r f e answer =
+      ⊎_elim (λ x. subst (λ qs. NextIs cells p qs k r) (sym x.2) (answer x.0 x.1)) (λ x. absurd (no_list x.0 x.1.0 (omega (arith, few_forms f)) x.1.1)) has

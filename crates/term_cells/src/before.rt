@@ -3,28 +3,22 @@
 ghost use Rattle.std.specs.Prelude.{◌≡◌, ◌<◌, ◌≤◌, ℕ, [], ◌∷◌, List, length, true, false, Some, ltb, slice_get, map, MatchBool, MatchOption, OnSome, IfOk, IsTrue, if◌then◌else◌};
 ghost use Rattle.std.specs.Fmt.{signed_decimal};
 ghost use Rattle.math_terms.specs.declared.term.Term.{Term};
+ghost use Rattle.math_terms.specs.Forms.{form_number};
 ghost use Rattle.num_theory.specs.Linear.{text_before};
 ghost use Rattle.num_theory.specs.Texts.{text};
 ghost use Rattle.term_cells.specs.declared.cell.Cell.{Cell};
 ghost use Rattle.term_cells.specs.working.Marks as marks;
-ghost use Rattle.term_cells.specs.working.Pieces.{HasPieces, IsWithin, NextIs, Says, child_count, comma_before, list_pieces, term_pieces};
+ghost use Rattle.term_cells.specs.working.Pieces.{HasPieces, IsWithin, NextIs, Says, comma_before, list_pieces, term_pieces};
 ghost use Rattle.term_cells.specs.working.Reading.{Reads, weight};
 ghost use Rattle.term_cells.specs.Standing.{parts_stand, stands};
 
-use crate::arity::arity_of;
 use crate::cell::Cell;
 use crate::cells::Cells;
-use crate::marks::{closing, is_numbered, left_least, opening, right_least, strength, symbol};
+use crate::marks::{closing, is_numbered, left_least, opening, right_least, symbol};
 use crate::reading::{Frame, Reading};
-use math_terms::NoMemory;
+use math_terms::{Form, NoMemory};
 use std::alloc::Global;
 use std::marker::Model;
-
-const TUPLE: u8 = 16;
-
-const END: u8 = 26;
-
-const LINK: u8 = 27;
 
 /// Room for comparing texts: a place can be read that is below its number.
 #[derive(Debug, Drop)]
@@ -149,13 +143,13 @@ impl Cells {
         let Some(cell) = self.at(frame.place) else {
             return Next::Done;
         };
-        if cell.form == END {
-            return Next::Done;
-        }
-        if cell.form == LINK {
+        if cell.is_link() {
             return self.list_piece(cell, frame.stage);
         }
-        self.node_piece(cell, frame.wrapped, frame.stage)
+        let Some(form) = cell.node_form() else {
+            return Next::Done;
+        };
+        self.node_piece(cell, form, frame.wrapped, frame.stage)
     }
 
     /// The same of a list of parts, of which the cell has the first.
@@ -180,16 +174,16 @@ impl Cells {
         let Some(cell) = self.at(list) else {
             return b"";
         };
-        if cell.form == LINK { b", " } else { b"" }
+        if cell.is_link() { b", " } else { b"" }
     }
 
-    /// The same of a term, of which the cell has the head.
-    fn node_piece(&self, cell: Cell, wrapped: bool, stage: u8) -> Next
+    /// The same of a term of this form, of which the cell has the head.
+    fn node_piece(&self, cell: Cell, form: Form, wrapped: bool, stage: u8) -> Next
         ensures within { IsWithin stage result }
-        ensures piece { (place : ℕ) (t : Term) → slice_get self.now.0 place ≡ Some cell → stands self.now.0 t place ≡ true → NextIs self.now.0 place (term_pieces wrapped t) stage result }
+        ensures piece { (place : ℕ) (t : Term) → slice_get self.now.0 place ≡ Some cell → cell.form ≡ form_number form → stands self.now.0 t place ≡ true
+            → NextIs self.now.0 place (term_pieces wrapped t) stage result }
     {
-        let form = cell.form;
-        let count = child_count(form);
+        let count = cell.child_count();
         match stage {
             0 => mark_if(wrapped, b"("),
             1 => Next::Mark(opening(form, cell.own)),
@@ -217,7 +211,7 @@ impl Cells {
         let Some(cell) = self.at(place) else {
             return Next::Done;
         };
-        Next::Child(place, strength(cell.form) < least)
+        Next::Child(place, cell.strength() < least)
     }
 }
 
@@ -232,13 +226,6 @@ fn start(reading: &mut Reading, place: u32)
         wrapped: false,
         stage: 0,
     });
-}
-
-/// How many children a node of this form has, where a tuple's parts are one.
-fn child_count(form: u8) -> u8
-    ensures { result ≡ child_count form }
-{
-    if form == TUPLE { 1 } else { arity_of(form) }
 }
 
 /// These bytes, where they are there.

@@ -29,15 +29,8 @@ impl Cells {
     pub fn new(alloc: Global, room: usize) -> Result<Cells, NoMemory>
         ensures { IfOk result (λ c. c ≡ ([], room)) }
     {
-        let empty = Cell {
-            form: 0,
-            own: 0,
-            a: 0,
-            b: 0,
-            c: 0,
-        };
         Ok(Cells {
-            cells: vec![in alloc; empty; room]?,
+            cells: vec![in alloc; Cell::end(); room]?,
             used: 0,
         })
     }

@@ -6,13 +6,9 @@ ghost use Rattle.math_terms.specs.Terms.{nodes};
 ghost use Rattle.term_cells.specs.working.Counting.{Leaves};
 ghost use Rattle.term_cells.specs.Standing.{few_stand, parts_stand, stands, stands_below};
 
-use crate::arity::arity_of;
 use crate::cell::Cell;
 use crate::cells::Cells;
-
-const TUPLE: u8 = 16;
-
-const LINK: u8 = 27;
+use math_terms::Form;
 
 impl Cells {
     /// How many nodes the term at this place has, or `most + 1` where it has more than `most`. It looks at no more nodes than that.
@@ -33,10 +29,10 @@ impl Cells {
     {
         let number = number.checked_sub(1)?;
         let cell = self.at(p)?;
-        if cell.form == TUPLE {
+        if cell.is(Form::Tuple) {
             return self.count_parts(p, cell.a, number);
         }
-        self.count_children(p, arity_of(cell.form), cell, number)
+        self.count_children(p, cell.arity(), cell, number)
     }
 
     /// The same, where the place is below another.
@@ -79,7 +75,7 @@ impl Cells {
             return None;
         }
         let cell = self.at(p)?;
-        if cell.form != LINK {
+        if !cell.is_link() {
             return Some(number);
         }
         let number = self.count_below(p, cell.a, number)?;

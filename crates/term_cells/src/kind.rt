@@ -3,21 +3,14 @@
 ghost use Rattle.std.specs.Prelude.{◌≡◌, ◌↔◌, ℕ, ◌<◌, pos, List, IfSome, IsTrue, Some, map, slice_get, true};
 ghost use Rattle.math_terms.specs.declared.term.Term.{Term};
 ghost use Rattle.math_terms.specs.declared.descriptor.Sort.TheViews.{out-Sort};
+ghost use Rattle.math_terms.specs.Forms.{form_number};
 ghost use Rattle.math_terms.specs.Kinds.{forget_option, kind, or_any, sort_of_desc};
 ghost use Rattle.math_terms.specs.Sorts.{z, b, part_form, sort_of_var};
 ghost use Rattle.term_cells.specs.KindShown.{PartAt, PartsBelow, Shows, ShowsIn, is_number_form, is_truth_form, kind_of_desc, sorts_of_vars};
 ghost use Rattle.term_cells.specs.Standing.{parts_stand, stands, stands_below};
 
 use crate::cells::Cells;
-use math_terms::{Desc, Name, Shape};
-
-const VAR: u8 = 4;
-
-const TUPLE: u8 = 16;
-
-const PROJ: u8 = 17;
-
-const LINK: u8 = 27;
+use math_terms::{Desc, Form, Name, Shape};
 
 /// A kind: that of numbers, of truth values, of tuples, by the place of the parts or by their descriptors, or any other.
 #[derive(Clone, Copy)]
@@ -59,23 +52,26 @@ impl Cells {
         let Some(cell) = self.at(p) else {
             return Kind::Other;
         };
-        if is_number_form(cell.form) {
+        let Some(form) = cell.node_form() else {
+            return Kind::Other;
+        };
+        if is_number_form(form) {
             return Kind::Number;
         }
-        if is_truth_form(cell.form) {
+        if is_truth_form(form) {
             return Kind::Truth;
         }
-        if cell.form == TUPLE {
+        if cell.is(Form::Tuple) {
             return if cell.a < p {
                 Kind::Parts(cell.a)
             } else {
                 Kind::Other
             };
         }
-        if cell.form == VAR {
+        if cell.is(Form::Var) {
             return kind_of_var(cell.own, vars);
         }
-        if cell.form == PROJ {
+        if cell.is(Form::Proj) {
             return self.kind_of_part(p, cell.a, cell.own, vars);
         }
         Kind::Other
@@ -109,7 +105,7 @@ impl Cells {
         ensures part { (limit : ℕ) (ts : List Term) → parts_stand self.now.0 (map (stands self.now.0) ts) list limit ≡ true → PartAt self.now.0 ts k result }
     {
         let cell = self.at(list)?;
-        if cell.form != LINK {
+        if !cell.is_link() {
             return None;
         }
         if cell.a >= list || cell.b >= list {
@@ -175,14 +171,22 @@ fn kind_in(d: &Desc) -> Kind<'_>
     }
 }
 
-fn is_number_form(form: u8) -> bool
-    ensures { result ≡ is_number_form form }
+fn is_number_form(form: Form) -> bool
+    ensures { result ≡ is_number_form (form_number form) }
 {
-    form == 0 || form == 2 || form == 3 || (5 <= form && form <= 10)
+    match form {
+        Form::Num | Form::MinInt | Form::MaxInt | Form::Len => true,
+        Form::Add | Form::Sub | Form::Mul | Form::Div | Form::Mod => true,
+        _ => false,
+    }
 }
 
-fn is_truth_form(form: u8) -> bool
-    ensures { result ≡ is_truth_form form }
+fn is_truth_form(form: Form) -> bool
+    ensures { result ≡ is_truth_form (form_number form) }
 {
-    form == 1 || (18 <= form && form <= 25)
+    match form {
+        Form::Truth | Form::Eq | Form::Less | Form::LessEq | Form::Initial => true,
+        Form::Not | Form::And | Form::Or | Form::Implies => true,
+        _ => false,
+    }
 }

@@ -4,6 +4,7 @@ ghost use Rattle.std.specs.Prelude.{◌≡◌, ◌+◌, ◌-◌, ◌*◌, ◌^�
 ghost use Rattle.math_terms.specs.declared.term.Term.{Term};
 ghost use Rattle.math_terms.specs.declared.term.Term.TheOpen.{Term-F};
 ghost use Rattle.math_terms.specs.declared.term.Term.TheViews.{roll-Term};
+ghost use Rattle.math_terms.specs.Forms.{form_number};
 ghost use Rattle.math_terms.specs.Terms.{nodes};
 ghost use Rattle.term_cells.specs.Standing.{stands};
 ghost use Rattle.term_cells.specs.Growing.{Grows, IsShort, NodeLoads, PartsLoad, StandsThere, has_end};
@@ -11,15 +12,7 @@ ghost use Rattle.term_cells.specs.Growing.{Grows, IsShort, NodeLoads, PartsLoad,
 use crate::cell::Cell;
 use crate::cells::Cells;
 use crate::head::{Children, head_of};
-use math_terms::Term;
-
-const DIV: u8 = 8;
-
-const MOD: u8 = 9;
-
-const END: u8 = 26;
-
-const LINK: u8 = 27;
+use math_terms::{Form, Term};
 
 impl Cells {
     /// A copy of the term, and the place where it stands; none where room for two cells a node is wanting. This takes no memory.
@@ -28,7 +21,7 @@ impl Cells {
         ensures grown { Grows self.old self.new (2 * nodes t.now + 1) }
         ensures short { IfNone result ((self.old.1 < length self.old.0 + 2 * nodes t.now) ⊎ (2 ^ 32 - 1 ≤ length self.old.0 + 2 * nodes t.now)) }
     {
-        let end = self.leaf(END, 0)?;
+        let end = self.push(Cell::end())?;
         self.load_node(end, t)
     }
 
@@ -50,8 +43,8 @@ impl Cells {
     }
 
     #[cycle(load)]
-    fn load_one(&mut self, end: u32, form: u8, own: i64, a: &Term) -> Option<u32>
-        ensures node { has_end self.old.0 end ≡ true → NodeLoads false self.new.0 form own (a.now ∷ []) result }
+    fn load_one(&mut self, end: u32, form: Form, own: i64, a: &Term) -> Option<u32>
+        ensures node { has_end self.old.0 end ≡ true → NodeLoads false self.new.0 (form_number form) own (a.now ∷ []) result }
         ensures grown { Grows self.old self.new (2 + 2 * nodes a.now) }
         ensures short { IfNone result (IsShort self.old (2 + 2 * nodes a.now)) }
     {
@@ -60,65 +53,47 @@ impl Cells {
     }
 
     #[cycle(load)]
-    fn load_two(&mut self, end: u32, form: u8, own: i64, a: &Term, b: &Term) -> Option<u32>
-        ensures node { has_end self.old.0 end ≡ true → NodeLoads false self.new.0 form own (a.now ∷ b.now ∷ []) result }
+    fn load_two(&mut self, end: u32, form: Form, own: i64, a: &Term, b: &Term) -> Option<u32>
+        ensures node { has_end self.old.0 end ≡ true → NodeLoads false self.new.0 (form_number form) own (a.now ∷ b.now ∷ []) result }
         ensures grown { Grows self.old self.new (2 + 2 * nodes a.now + 2 * nodes b.now) }
         ensures short { IfNone result (IsShort self.old (2 + 2 * nodes a.now + 2 * nodes b.now)) }
     {
         let p = self.load_node(end, a)?;
         let q = self.load_node(end, b)?;
-        if form == MOD {
-            return self.remainder(p, q);
+        match form {
+            Form::Mod => self.remainder(p, q),
+            _ => self.push(Cell::node(form, own, p, q, 0)),
         }
-        self.push(Cell {
-            form,
-            own,
-            a: p,
-            b: q,
-            c: 0,
-        })
     }
 
     #[cycle(load)]
     fn load_three(
         &mut self,
         end: u32,
-        form: u8,
+        form: Form,
         own: i64,
         a: &Term,
         b: &Term,
         c: &Term,
     ) -> Option<u32>
-        ensures node { has_end self.old.0 end ≡ true → NodeLoads false self.new.0 form own (a.now ∷ b.now ∷ c.now ∷ []) result }
+        ensures node { has_end self.old.0 end ≡ true → NodeLoads false self.new.0 (form_number form) own (a.now ∷ b.now ∷ c.now ∷ []) result }
         ensures grown { Grows self.old self.new (2 + 2 * nodes a.now + 2 * nodes b.now + 2 * nodes c.now) }
         ensures short { IfNone result (IsShort self.old (2 + 2 * nodes a.now + 2 * nodes b.now + 2 * nodes c.now)) }
     {
         let p = self.load_node(end, a)?;
         let q = self.load_node(end, b)?;
         let r = self.load_node(end, c)?;
-        self.push(Cell {
-            form,
-            own,
-            a: p,
-            b: q,
-            c: r,
-        })
+        self.push(Cell::node(form, own, p, q, r))
     }
 
     #[cycle(load)]
-    fn load_tuple(&mut self, end: u32, form: u8, own: i64, parts: &[Term]) -> Option<u32>
-        ensures node { has_end self.old.0 end ≡ true → NodeLoads true self.new.0 form own parts.now result }
+    fn load_tuple(&mut self, end: u32, form: Form, own: i64, parts: &[Term]) -> Option<u32>
+        ensures node { has_end self.old.0 end ≡ true → NodeLoads true self.new.0 (form_number form) own parts.now result }
         ensures grown { Grows self.old self.new (2 + 2 * sum_by nodes parts.now) }
         ensures short { IfNone result (IsShort self.old (2 + 2 * sum_by nodes parts.now)) }
     {
         let list = self.load_parts(end, parts)?;
-        self.push(Cell {
-            form,
-            own,
-            a: list,
-            b: 0,
-            c: 0,
-        })
+        self.push(Cell::node(form, own, list, 0, 0))
     }
 
     /// A list of the parts, which ends at `end`.
@@ -133,12 +108,6 @@ impl Cells {
         };
         let b = self.load_parts(end, rest)?;
         let a = self.load_node(end, first)?;
-        self.push(Cell {
-            form: LINK,
-            own: 0,
-            a,
-            b,
-            c: 0,
-        })
+        self.push(Cell::link(a, b))
     }
 }

@@ -4,13 +4,9 @@ ghost use Rattle.std.specs.Prelude.{◌≡◌, ◌↔◌, true, ℕ, List, lengt
 ghost use Rattle.math_terms.specs.declared.term.Term.{Term};
 ghost use Rattle.term_cells.specs.Standing.{few_stand, parts_stand, stands, stands_below};
 
-use crate::arity::arity_of;
 use crate::cell::Cell;
 use crate::cells::Cells;
-
-const TUPLE: u8 = 16;
-
-const LINK: u8 = 27;
+use math_terms::Form;
 
 impl Cells {
     /// Whether the same term stands at both places. This takes no memory.
@@ -27,10 +23,10 @@ impl Cells {
         if !same_head(c, d) {
             return false;
         }
-        if c.form == TUPLE {
+        if c.is(Form::Tuple) {
             return c.a < p && self.same_parts(c.a, d.a);
         }
-        self.same_children(p, arity_of(c.form), c, d)
+        self.same_children(p, c.arity(), c, d)
     }
 
     /// The same of two children, of which the first is below a place.
@@ -75,7 +71,7 @@ impl Cells {
         if c.form != d.form {
             return false;
         }
-        if c.form != LINK {
+        if !c.is_link() {
             return true;
         }
         if !self.same_below(p, c.a, d.a) {

@@ -3,6 +3,7 @@ use Rattle.std.specs.Prelude.{◌≡◌, ℕ, ◌+◌, pos, true, List, [], ◌�
 use Rattle.math_terms.specs.declared.term.Term.{Term}
 use Rattle.math_terms.specs.declared.term.Term.TheOpen.{Term-F}
 use Rattle.math_terms.specs.declared.term.Term.TheViews.{roll-Term}
+use Rattle.math_terms.specs.Forms.{form_number}
 use Rattle.math_terms.specs.Terms.{nodes}
 use Rattle.term_cells.specs.declared.cell.Cell.{Cell}
 use Rattle.term_cells.specs.Growing.{HasHead, IsFewForm}
@@ -29,8 +30,8 @@ abbrev pub PartIs : List Cell → Part → Term → Type 0
 PartIs cells (At p) t = stands cells t p ≡ true
 PartIs cells (Truth b) t = t ≡ truth_of b
 PartIs cells (Not p) t = (a : Term) × (stands cells a p ≡ true) × (t ≡ not_of a)
-PartIs cells (Two k p q) t = OverTwo cells p q (λ a b. IsOver k a b t)
-PartIs cells (OfNegations k p q) t = OverTwo cells p q (λ a b. IsOver k (not_of a) (not_of b) t)
+PartIs cells (Two k p q) t = OverTwo cells p q (λ a b. IsOver (form_number k) a b t)
+PartIs cells (OfNegations k p q) t = OverTwo cells p q (λ a b. IsOver (form_number k) (not_of a) (not_of b) t)
 PartIs cells (AndNot p q) t = OverTwo cells p q (λ a b. t ≡ and_of a (not_of b))
 
 -- how many cells are made for it, which are no more than its nodes

@@ -1,5 +1,5 @@
 use Rattle.std.proofs.Common.{◌∙◌, sym, ap, subst, refl, ◌+◌, slice_get, SFits, w64, pos, rules, arith}
-use Rattle.std.proofs.lemmas.Bool.{ne_eqb}
+use Rattle.std.proofs.lemmas.Bool.{eqb-true}
 use Rattle.std.proofs.lemmas.Int.{to_z-of_z}
 use Rattle.math_terms.specs.Terms.{nodes}
 use Rattle.num_theory.specs.Table.{less_eq, num}
@@ -14,13 +14,13 @@ use Rattle.cell_rows.proofs.fact.form_of_fact.Goals as goal
 pub returns-in_err-cell-clause-form : goal.returns-in_err-cell-clause-form
 returns-in_err-cell-clause-form c = λ t f h e. absurd (not_there c.args.cells.now.0 t c.args.p (sym c.in_err-cell.ensures) h)
 
-pub returns-then-cell-eq-LEN-clause-form : goal.returns-then-cell-eq-LEN-clause-form
-returns-then-cell-eq-LEN-clause-form c = λ t f h e.
+pub returns-then-is-clause-form : goal.returns-then-is-clause-form
+returns-then-is-clause-form c = λ t f h e.
     let cells = c.args.cells.now.0 in
     let cell = c.in_ok-cell.cell in
     let is = sym c.in_ok-cell.ensures in
-    let atom = atom_by cells t c.args.p cell is h 10 c.if-cell-eq-LEN.true refl refl refl refl refl in
-    let fact = only_one (less_eq (num (pos 0)) t) f c.args.k (ap (λ fs. slice_get fs c.args.k) (sym (len_facts cells t c.args.p cell is h c.if-cell-eq-LEN.true)) ∙ e) in
+    let atom = atom_by cells t c.args.p cell is h 10 (eqb-true c.in_ok-cell.cell.form 10 (sym c.if-is.ensures)) refl refl refl refl refl in
+    let fact = only_one (less_eq (num (pos 0)) t) f c.args.k (ap (λ fs. slice_get fs c.args.k) (sym (len_facts cells t c.args.p cell is h (eqb-true c.in_ok-cell.cell.form 10 (sym c.if-is.ensures)))) ∙ e) in
     let some = some_nodes cells t c.args.p cell is h in
     subst (λ x. FormOrShort cells x (nodes t) c.atom_form.result c.atom_form.new.marks)
     (sym (ap fact_form (sym fact) ∙ length_form t atom))
@@ -32,7 +32,7 @@ returns-then-k-eq0-clause-form c = λ t f h e.
     let cell = c.in_ok-cell.cell in
     let number = c.literal-number.result in
     let fits : SFits w64 number = search rules in
-    let q = of_quotient cells t c.args.p cell (sym c.in_ok-cell.ensures) h number c.args.k f (ne_eqb cell.form 10 c.if-cell-eq-LEN.false) c.literal-number.ensures e in
+    let q = of_quotient cells t c.args.p cell (sym c.in_ok-cell.ensures) h number c.args.k f (sym c.if-is.ensures) c.literal-number.ensures e in
     widened cells (lower_form number t q.divided) (fact_form f) (nodes q.divided + 1) (nodes t) c.lower.result c.lower.new.marks (sym (q.first c.if-k-eq0.true)) q.nodes_are
     (simp to_z-of_z at (c.lower.ensures.form q.divided t q.below h))
 
@@ -42,6 +42,6 @@ returns-else-k-eq0-clause-form c = λ t f h e.
     let cell = c.in_ok-cell.cell in
     let number = c.literal-number.result in
     let fits : SFits w64 number = search rules in
-    let q = of_quotient cells t c.args.p cell (sym c.in_ok-cell.ensures) h number c.args.k f (ne_eqb cell.form 10 c.if-cell-eq-LEN.false) c.literal-number.ensures e in
+    let q = of_quotient cells t c.args.p cell (sym c.in_ok-cell.ensures) h number c.args.k f (sym c.if-is.ensures) c.literal-number.ensures e in
     widened cells (upper_form number t q.divided) (fact_form f) (1 + nodes q.divided) (nodes t) c.upper.result c.upper.new.marks (sym (q.second c.if-k-eq0.false)) (omega (arith, q.nodes_are))
     (simp to_z-of_z at (c.upper.ensures.form q.divided t q.below h))

@@ -1,5 +1,5 @@
 use Rattle.std.proofs.Common.{pos, false, ◌≤ℤ◌, ◌<ℤ◌, ◌==◌, ◌≡◌, Some, ◌∙◌, List, ◌≤◌, length, sym, ap, refl, subst, ◌+◌, ◌-◌, drop, SFits, w64, rules, true, take, ◌++◌, arith}
-use Rattle.std.proofs.lemmas.Bool.{ne_eqb}
+use Rattle.std.proofs.lemmas.Bool.{eqb-true}
 use Rattle.std.proofs.lemmas.Int.{to_z-of_z}
 use Rattle.math_terms.specs.declared.term.Term.TheOpen.{Term-F}
 use Rattle.math_terms.specs.declared.term.Term.TheViews.{roll-Term}
@@ -21,33 +21,33 @@ use Rattle.cell_rows.proofs.forms.+form.Goals as goal
 pub form-returns-in_err-cell-clause-form : goal.form-returns-in_err-cell-clause-form
 form-returns-in_err-cell-clause-form m c = λ t h. absurd (not_there c.args.cells.now.0 t c.args.p (sym c.in_err-cell.ensures) h)
 
-pub form-returns-then-cell-eq-NUM-clause-form : goal.form-returns-then-cell-eq-NUM-clause-form
-form-returns-then-cell-eq-NUM-clause-form m c = λ t h.
+pub form-returns-then-is-clause-form : goal.form-returns-then-is-clause-form
+form-returns-then-is-clause-form m c = λ t h.
     let cells = c.args.cells.now.0 in
     let fits : SFits w64 c.in_ok-cell.cell.own = search rules in
     subst (λ x. FormStands cells x (nodes t) c.constant_form.result c.args.marks.now)
-    (sym (number_formed cells t c.args.p c.in_ok-cell.cell (sym c.in_ok-cell.ensures) h c.if-cell-eq-NUM.true))
+    (sym (number_formed cells t c.args.p c.in_ok-cell.cell (sym c.in_ok-cell.ensures) h (eqb-true c.in_ok-cell.cell.form 0 (sym c.if-is.ensures))))
     (simp to_z-of_z at (c.constant_form.ensures.form cells (nodes t) c.args.marks.now))
 
-pub form-returns-then-cell-eq-ADD-clause-form : goal.form-returns-then-cell-eq-ADD-clause-form
-form-returns-then-cell-eq-ADD-clause-form m c = λ t h.
+pub form-returns-then-is-2-clause-form : goal.form-returns-then-is-2-clause-form
+form-returns-then-is-2-clause-form m c = λ t h.
     let cells = c.args.cells.now.0 in
-    let s = two_at Term-F.Add 5 (λ a b. record { form_is = refl; own_is = refl; children_are = refl }) refl cells t c.args.p c.in_ok-cell.cell (sym c.in_ok-cell.ensures) c.if-cell-eq-ADD.true h in
+    let s = two_at Term-F.Add 5 (λ a b. record { form_is = refl; own_is = refl; children_are = refl }) refl cells t c.args.p c.in_ok-cell.cell (sym c.in_ok-cell.ensures) (eqb-true c.in_ok-cell.cell.form 5 (sym c.if-is-2.ensures)) h in
     widened cells (plus (formed s.left).1 (formed s.right).1) (formed t).1 (nodes s.left + nodes s.right) (nodes t) c.sum_form.result c.sum_form.new.marks
     (sym (form_at (Term-F.Add s.left s.right) t s.term_is)) (omega (arith, s.nodes_are)) (c.sum_form.ensures.form s.left s.right s.left_is s.right_is)
 
-pub form-returns-then-cell-eq-MUL-clause-form : goal.form-returns-then-cell-eq-MUL-clause-form
-form-returns-then-cell-eq-MUL-clause-form m c = λ t h.
+pub form-returns-then-is-4-clause-form : goal.form-returns-then-is-4-clause-form
+form-returns-then-is-4-clause-form m c = λ t h.
     let cells = c.args.cells.now.0 in
-    let s = two_at Term-F.Mul 7 (λ a b. record { form_is = refl; own_is = refl; children_are = refl }) refl cells t c.args.p c.in_ok-cell.cell (sym c.in_ok-cell.ensures) c.if-cell-eq-MUL.true h in
+    let s = two_at Term-F.Mul 7 (λ a b. record { form_is = refl; own_is = refl; children_are = refl }) refl cells t c.args.p c.in_ok-cell.cell (sym c.in_ok-cell.ensures) (eqb-true c.in_ok-cell.cell.form 7 (sym c.if-is-4.ensures)) h in
     let node : stands cells (roll-Term (Term-F.Mul s.left s.right)) c.args.p ≡ true = subst (λ v. stands cells v c.args.p ≡ true) s.term_is h in
     widened cells (product_form (formed s.left) (formed s.right)) (formed t).1 (1 + nodes s.left + nodes s.right) (nodes t) c.product_form.result c.product_form.new.marks
     (sym (form_at (Term-F.Mul s.left s.right) t s.term_is)) (omega (arith, s.nodes_are)) (c.product_form.ensures.form s.left s.right node s.left_is s.right_is)
 
-pub form-returns-then-cell-eq-MOD-clause-form : goal.form-returns-then-cell-eq-MOD-clause-form
-form-returns-then-cell-eq-MOD-clause-form m c = λ t h.
+pub form-returns-then-is-5-clause-form : goal.form-returns-then-is-5-clause-form
+form-returns-then-is-5-clause-form m c = λ t h.
     let cells = c.args.cells.now.0 in
-    let s = two_at Term-F.Mod 9 (λ a b. record { form_is = refl; own_is = refl; children_are = refl }) refl cells t c.args.p c.in_ok-cell.cell (sym c.in_ok-cell.ensures) c.if-cell-eq-MOD.true h in
+    let s = two_at Term-F.Mod 9 (λ a b. record { form_is = refl; own_is = refl; children_are = refl }) refl cells t c.args.p c.in_ok-cell.cell (sym c.in_ok-cell.ensures) (eqb-true c.in_ok-cell.cell.form 9 (sym c.if-is-5.ensures)) h in
     let node : stands cells (roll-Term (Term-F.Mod s.left s.right)) c.args.p ≡ true = subst (λ v. stands cells v c.args.p ≡ true) s.term_is h in
     let quotient = quotient_stands_there cells s.left s.right c.args.p c.in_ok-cell.cell (sym c.in_ok-cell.ensures) node in
     widened cells (remainder_form (formed s.left) (formed s.right)) (formed t).1 (1 + nodes s.left + nodes s.right) (nodes t) c.remainder_form.result c.remainder_form.new.marks
@@ -59,7 +59,7 @@ form-returns-clause-form m c = λ t h.
     let cell = c.in_ok-cell.cell in
     let some = some_nodes cells t c.args.p cell (sym c.in_ok-cell.ensures) h in
     subst (λ x. FormOrShort cells x (nodes t) c.atom_form.result c.atom_form.new.marks)
-    (sym (other_formed cells t c.args.p cell (sym c.in_ok-cell.ensures) h (ne_eqb cell.form 0 c.if-cell-eq-NUM.false) (ne_eqb cell.form 5 c.if-cell-eq-ADD.false) (ne_eqb cell.form 6 c.if-cell-eq-SUB.false) (ne_eqb cell.form 7 c.if-cell-eq-MUL.false) (ne_eqb cell.form 9 c.if-cell-eq-MOD.false)))
+    (sym (other_formed cells t c.args.p cell (sym c.in_ok-cell.ensures) h (sym c.if-is.ensures) (sym c.if-is-2.ensures) (sym c.if-is-3.ensures) (sym c.if-is-4.ensures) (sym c.if-is-5.ensures)))
     (c.atom_form.ensures.form cells t (nodes t) h (omega (arith, some.1)))
 
 pub sum_form-returns-clause-form : goal.sum_form-returns-clause-form
@@ -73,10 +73,10 @@ sum_form-returns-clause-form m c = λ t u h k.
     (kept cells (formed t).1 (nodes t) c.in_ok-f.f first (take n first ++ (second ++ rest)) (low_part n first (second ++ rest) c.in_ok-f.ensures.fits) (c.in_ok-f.ensures.form t h))
     (behind cells (formed u).1 (nodes u) c.in_ok-g.g n first second rest c.in_ok-f.ensures.fits c.in_ok-g.ensures.fits (c.in_ok-g.ensures.form u k))
 
-pub form-returns-then-cell-eq-SUB-clause-form : goal.form-returns-then-cell-eq-SUB-clause-form
-form-returns-then-cell-eq-SUB-clause-form m c = λ t h.
+pub form-returns-then-is-3-clause-form : goal.form-returns-then-is-3-clause-form
+form-returns-then-is-3-clause-form m c = λ t h.
     let cells = c.args.cells.now.0 in
-    let s = two_at Term-F.Sub 6 (λ a b. record { form_is = refl; own_is = refl; children_are = refl }) refl cells t c.args.p c.in_ok-cell.cell (sym c.in_ok-cell.ensures) c.if-cell-eq-SUB.true h in
+    let s = two_at Term-F.Sub 6 (λ a b. record { form_is = refl; own_is = refl; children_are = refl }) refl cells t c.args.p c.in_ok-cell.cell (sym c.in_ok-cell.ensures) (eqb-true c.in_ok-cell.cell.form 6 (sym c.if-is-3.ensures)) h in
     widened cells (plus (formed s.left).1 (times (minus_one) (formed s.right).1)) (formed t).1 (nodes s.left + nodes s.right) (nodes t) c.difference_form.result c.difference_form.new.marks
     (sym (form_at (Term-F.Sub s.left s.right) t s.term_is)) (omega (arith, s.nodes_are)) (c.difference_form.ensures.form s.left s.right s.left_is s.right_is)
 
@@ -154,14 +154,14 @@ pub remainder_form-returns-in_err-divisor-clause-form : goal.remainder_form-retu
 remainder_form-returns-in_err-divisor-clause-form m c = λ t u node quotient h k.
     absurd (not_there c.args.cells.now.0 u c.args.cell.b (sym c.in_err-divisor.ensures) (below_parts (stands c.args.cells.now.0 u) c.args.cell.b c.args.p k).1)
 
-pub remainder_form-returns-then-divisor-ne-NUM-clause-form : goal.remainder_form-returns-then-divisor-ne-NUM-clause-form
-remainder_form-returns-then-divisor-ne-NUM-clause-form m c = λ t u node quotient h k.
+pub remainder_form-returns-then-not-is-clause-form : goal.remainder_form-returns-then-not-is-clause-form
+remainder_form-returns-then-not-is-clause-form m c = λ t u node quotient h k.
     let cells = c.args.cells.now.0 in
     let d = c.in_ok-divisor.divisor in
     let below = below_parts (stands cells u) c.args.cell.b c.args.p k in
     let head = its_form cells u c.args.cell.b d d.form (sym c.in_ok-divisor.ensures) refl below.1 in
     subst (λ x. FormOrShort cells x (1 + nodes t + nodes u) c.atom_form.result c.atom_form.new.marks)
-    (sym (remainder_no_number t u (ap (λ n. n == 0) head ∙ ne_eqb d.form 0 c.if-divisor-ne-NUM.true)))
+    (sym (remainder_no_number t u (ap (λ n. n == 0) head ∙ sym c.if-not-is.ensures)))
     (c.atom_form.ensures.form cells (roll-Term (Term-F.Mod t u)) (1 + nodes t + nodes u) node (omega arith))
 
 pub remainder_form-returns-then-divisor-le0-clause-form : goal.remainder_form-returns-then-divisor-le0-clause-form
@@ -172,7 +172,7 @@ remainder_form-returns-then-divisor-le0-clause-form m c = λ t u node quotient h
     let test : le_z d.own (pos 0) ≡ true = simp to_z-of_z at c.if-divisor-le0.true in
     let low : d.own ≤ℤ pos 0 = not_above_zero d.own test in
     let below = below_parts (stands cells u) c.args.cell.b c.args.p k in
-    let number = leaves_open.num cells u c.args.cell.b d (sym c.in_ok-divisor.ensures) c.if-divisor-ne-NUM.false below.1 in
+    let number = leaves_open.num cells u c.args.cell.b d (sym c.in_ok-divisor.ensures) (eqb-true d.form 0 (sym c.if-not-is.ensures)) below.1 in
     subst (λ x. FormOrShort cells x (1 + nodes t + nodes u) c.atom_form-then-divisor-le0.result c.atom_form-then-divisor-le0.new.marks)
     (sym (remainder_by_low t u d.own number low))
     (c.atom_form-then-divisor-le0.ensures.form cells (roll-Term (Term-F.Mod t u)) (1 + nodes t + nodes u) node (omega arith))
@@ -183,7 +183,7 @@ remainder_form-returns-clause-form m c = λ t u node quotient h k.
     let d = c.in_ok-divisor.divisor in
     let fits : SFits w64 d.own = search rules in
     let below = below_parts (stands cells u) c.args.cell.b c.args.p k in
-    let number = leaves_open.num cells u c.args.cell.b d (sym c.in_ok-divisor.ensures) c.if-divisor-ne-NUM.false below.1 in
+    let number = leaves_open.num cells u c.args.cell.b d (sym c.in_ok-divisor.ensures) (eqb-true d.form 0 (sym c.if-not-is.ensures)) below.1 in
     let n = c.in_ok-f.f.count in
     let first = c.form_below.new.marks in
     let second = c.rounded_form.new.marks in

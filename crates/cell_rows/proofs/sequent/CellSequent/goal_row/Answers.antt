@@ -1,5 +1,5 @@
 use Rattle.std.proofs.Common.{◌≡◌, sym, refl, subst, ◌+◌, None, true, pos, negsuc, arith}
-use Rattle.std.proofs.lemmas.Bool.{ne_eqb}
+use Rattle.std.proofs.lemmas.Bool.{eqb-true}
 use Rattle.math_terms.specs.declared.term.Term.TheOpen.{Term-F}
 use Rattle.math_terms.specs.Terms.{nodes}
 use Rattle.term_cells.specs.declared.cell.Cell.{Cell}
@@ -13,11 +13,11 @@ use Rattle.cell_rows.proofs.sequent.CellSequent.goal_row.Goals as goal
 pub returns-in_default-clause-row : goal.returns-in_default-clause-row
 returns-in_default-clause-row c = λ t h. absurd (not_there c.args.self.now.cells.now.0 t c.args.self.now.goal (sym c.in_default.ensures) h)
 
-pub returns-then-cell-eq-LESS-clause-row : goal.returns-then-cell-eq-LESS-clause-row
-returns-then-cell-eq-LESS-clause-row c = λ t h.
+pub returns-then-is-clause-row : goal.returns-then-is-clause-row
+returns-then-is-clause-row c = λ t h.
     let cells = c.args.self.now.cells.now.0 in
     let cell = c.in-Some.cell in
-    let s = two_at Term-F.Less 19 (λ a b. record { form_is = refl; own_is = refl; children_are = refl }) refl cells t c.args.self.now.goal cell (sym c.in-Some.ensures) c.if-cell-eq-LESS.true h in
+    let s = two_at Term-F.Less 19 (λ a b. record { form_is = refl; own_is = refl; children_are = refl }) refl cells t c.args.self.now.goal cell (sym c.in-Some.ensures) (eqb-true c.in-Some.cell.form 19 (sym c.if-is.ensures)) h in
     let row = c.comparison_row in
     let other = c.exchange in
     let first = subst (λ (x : Cell). stands_below (stands cells s.right) x.a c.args.self.now.goal ≡ true) (sym other.ensures) s.right_is in
@@ -25,13 +25,13 @@ returns-then-cell-eq-LESS-clause-row c = λ t h.
     of_sides cells goal_row_at t Term-F.Less cell c.args.self.now.goal (difference_row (pos 0) s.right s.left) row.result row.new.self.marks.items s refl
     (nodes s.left + nodes s.right) (omega arith) (row.ensures.row s.right s.left first second)
 
-pub returns-then-cell-eq-LESS_EQ-clause-row : goal.returns-then-cell-eq-LESS_EQ-clause-row
-returns-then-cell-eq-LESS_EQ-clause-row c = λ t h.
+pub returns-then-is-2-clause-row : goal.returns-then-is-2-clause-row
+returns-then-is-2-clause-row c = λ t h.
     let cells = c.args.self.now.cells.now.0 in
     let cell = c.in-Some.cell in
-    let s = two_at Term-F.LessEq 20 (λ a b. record { form_is = refl; own_is = refl; children_are = refl }) refl cells t c.args.self.now.goal cell (sym c.in-Some.ensures) c.if-cell-eq-LESS_EQ.true h in
-    let row = c.comparison_row-then-cell-eq-LESS_EQ in
-    let other = c.exchange-then-cell-eq-LESS_EQ in
+    let s = two_at Term-F.LessEq 20 (λ a b. record { form_is = refl; own_is = refl; children_are = refl }) refl cells t c.args.self.now.goal cell (sym c.in-Some.ensures) (eqb-true c.in-Some.cell.form 20 (sym c.if-is-2.ensures)) h in
+    let row = c.comparison_row-then-is-2 in
+    let other = c.exchange-then-is-2 in
     let first = subst (λ (x : Cell). stands_below (stands cells s.right) x.a c.args.self.now.goal ≡ true) (sym other.ensures) s.right_is in
     let second = subst (λ (x : Cell). stands_below (stands cells s.left) x.b c.args.self.now.goal ≡ true) (sym other.ensures) s.left_is in
     of_sides cells goal_row_at t Term-F.LessEq cell c.args.self.now.goal (difference_row (negsuc 0) s.right s.left) row.result row.new.self.marks.items s refl
@@ -42,4 +42,4 @@ returns-clause-row c = λ t h.
     let cells = c.args.self.now.cells.now.0 in
     let cell = c.in-Some.cell in
     subst (λ x. RowStands cells x None c.args.sheet.now.marks.items)
-    (sym (no_goal cells t c.args.self.now.goal cell (sym c.in-Some.ensures) h (ne_eqb cell.form 19 c.if-cell-eq-LESS.false) (ne_eqb cell.form 20 c.if-cell-eq-LESS_EQ.false))) tt
+    (sym (no_goal cells t c.args.self.now.goal cell (sym c.in-Some.ensures) h (sym c.if-is.ensures) (sym c.if-is-2.ensures))) tt

@@ -1,5 +1,5 @@
 use Rattle.std.proofs.Common.{◌≡◌, sym, refl, subst, ◌+◌, None, true, pos, arith}
-use Rattle.std.proofs.lemmas.Bool.{ne_eqb}
+use Rattle.std.proofs.lemmas.Bool.{eqb-true}
 use Rattle.math_terms.specs.declared.term.Term.TheOpen.{Term-F}
 use Rattle.math_terms.specs.Terms.{nodes}
 use Rattle.term_cells.specs.declared.cell.Cell.{Cell}
@@ -14,12 +14,12 @@ use Rattle.cell_rows.proofs.sequent.CellSequent.second_row.Goals as goal
 pub returns-in_default-clause-row : goal.returns-in_default-clause-row
 returns-in_default-clause-row c = λ t h. absurd (not_there c.args.self.now.cells.now.0 t c.args.p (sym c.in_default.ensures) h)
 
-pub returns-then-cell-eq-EQ-clause-row : goal.returns-then-cell-eq-EQ-clause-row
-returns-then-cell-eq-EQ-clause-row c = λ t h.
+pub returns-then-is-clause-row : goal.returns-then-is-clause-row
+returns-then-is-clause-row c = λ t h.
     let cells = c.args.self.now.cells.now.0 in
     let cell = c.in-Some.cell in
     let vars = sorts_of_vars c.args.self.now.vars.now in
-    let s = two_at Term-F.Eq 18 (λ a b. record { form_is = refl; own_is = refl; children_are = refl }) refl cells t c.args.p cell (sym c.in-Some.ensures) c.if-cell-eq-EQ.true h in
+    let s = two_at Term-F.Eq 18 (λ a b. record { form_is = refl; own_is = refl; children_are = refl }) refl cells t c.args.p cell (sym c.in-Some.ensures) (eqb-true c.in-Some.cell.form 18 (sym c.if-is.ensures)) h in
     let first = subst (λ (x : Cell). stands_below (stands cells s.right) x.a c.args.p ≡ true) (sym c.exchange.ensures) s.right_is in
     let second = subst (λ (x : Cell). stands_below (stands cells s.left) x.b c.args.p ≡ true) (sym c.exchange.ensures) s.left_is in
     let row = difference_row (pos 0) s.right s.left in
@@ -32,4 +32,4 @@ returns-clause-row c = λ t h.
     let cells = c.args.self.now.cells.now.0 in
     let cell = c.in-Some.cell in
     subst (λ x. RowStands cells x None c.args.sheet.now.marks.items)
-    (sym (no_second cells t c.args.p cell (sym c.in-Some.ensures) h (sorts_of_vars c.args.self.now.vars.now) (ne_eqb cell.form 18 c.if-cell-eq-EQ.false))) tt
+    (sym (no_second cells t c.args.p cell (sym c.in-Some.ensures) h (sorts_of_vars c.args.self.now.vars.now) (sym c.if-is.ensures))) tt

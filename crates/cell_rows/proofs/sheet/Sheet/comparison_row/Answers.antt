@@ -5,7 +5,7 @@ use Rattle.math_terms.specs.declared.term.Term.TheOpen.{Term-F}
 use Rattle.math_terms.specs.declared.term.Term.TheViews.{roll-Term}
 use Rattle.math_terms.specs.Terms.{nodes}
 use Rattle.num_theory.specs.Linear.{Form, formed, minus_one, plus, times, shown_form}
-use Rattle.num_theory.specs.Making.{IsWellMade}
+use Rattle.num_theory.specs.working.Making.{IsWellMade}
 use Rattle.num_theory.proofs.Forming.{form_at}
 use Rattle.num_theory.proofs.WellMade.{form_well}
 use Rattle.term_cells.specs.declared.cell.Cell.{Cell}

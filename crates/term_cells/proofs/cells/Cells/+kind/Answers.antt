@@ -3,48 +3,53 @@ use Rattle.std.proofs.lemmas.Int.{to_z-of_z}
 use Rattle.math_terms.specs.declared.term.Term.TheViews.{out-Term}
 use Rattle.math_terms.specs.Heads.{children}
 use Rattle.math_terms.specs.Kinds.{kind, or_any}
-use Rattle.term_cells.specs.KindShown.{Shows, ShowsIn, kind_of_desc, sorts_of_vars}
+use Rattle.term_cells.specs.KindShown.{Shows, ShowsIn, is_number_form, is_truth_form, kind_of_desc, sorts_of_vars}
 use Rattle.term_cells.specs.Standing.{stands}
-use Rattle.term_cells.proofs.Apart.{below_parts}
+use Rattle.term_cells.proofs.Apart.{below_parts, holds, fails}
 use Rattle.term_cells.proofs.Comparing.{tuple_below}
+use Rattle.term_cells.proofs.PieceOf.{no_term}
 use Rattle.term_cells.proofs.Kinded.{tuple_kind, tuple_parts, other_kind, variable_kind, projection_kind, shows_in, part_shows, no_part, descs_show, plain_part}
 use Rattle.term_cells.proofs.cells.Cells.+kind.Goals as goal
+
+pub kind_of-returns-in_default-node_form-clause-shown : goal.kind_of-returns-in_default-node_form-clause-shown
+kind_of-returns-in_default-node_form-clause-shown m c = λ t h.
+    absurd (no_term c.args.self.now.0 t c.args.p c.in-Some.cell (sym c.in-Some.ensures) (λ f e. let none = c.in_default-node_form.ensures.each f e in cc) h)
 
 pub kind_of-returns-then-cell-p-clause-shown : goal.kind_of-returns-then-cell-p-clause-shown
 kind_of-returns-then-cell-p-clause-shown m c = λ t h.
     let cells = c.args.self.now.0 in
     let at = sym c.in-Some.ensures in (
       children (out-Term t),
-      tuple_kind cells (sorts_of_vars c.args.vars.now) t c.args.p c.in-Some.cell at h c.if-cell-eq-TUPLE.true,
-      (c.args.p, tuple_parts cells (sorts_of_vars c.args.vars.now) t c.args.p c.in-Some.cell at h c.if-cell-eq-TUPLE.true),
+      tuple_kind cells (sorts_of_vars c.args.vars.now) t c.args.p c.in-Some.cell at h (holds c.in-Some.cell.form 16 c.if-is.ensures),
+      (c.args.p, tuple_parts cells (sorts_of_vars c.args.vars.now) t c.args.p c.in-Some.cell at h (holds c.in-Some.cell.form 16 c.if-is.ensures)),
     )
 
 pub kind_of-returns-else-cell-p-clause-shown : goal.kind_of-returns-else-cell-p-clause-shown
 kind_of-returns-else-cell-p-clause-shown m c = λ t h.
-    let below = tuple_below c.args.self.now.0 t c.args.p c.in-Some.cell (sym c.in-Some.ensures) c.if-cell-eq-TUPLE.true h in
+    let below = tuple_below c.args.self.now.0 t c.args.p c.in-Some.cell (sym c.in-Some.ensures) (holds c.in-Some.cell.form 16 c.if-is.ensures) h in
     absurd (omega arith)
 
-pub kind_of-returns-then-cell-eq-VAR-clause-below : goal.kind_of-returns-then-cell-eq-VAR-clause-below
-kind_of-returns-then-cell-eq-VAR-clause-below m c = c.kind_of_var.ensures.below c.args.p
+pub kind_of-returns-then-is-2-clause-below : goal.kind_of-returns-then-is-2-clause-below
+kind_of-returns-then-is-2-clause-below m c = c.kind_of_var.ensures.below c.args.p
 
-pub kind_of-returns-then-cell-eq-VAR-clause-shown : goal.kind_of-returns-then-cell-eq-VAR-clause-shown
-kind_of-returns-then-cell-eq-VAR-clause-shown m c = λ t h.
+pub kind_of-returns-then-is-2-clause-shown : goal.kind_of-returns-then-is-2-clause-shown
+kind_of-returns-then-is-2-clause-shown m c = λ t h.
     let cells = c.args.self.now.0 in
     let sorts = sorts_of_vars c.args.vars.now in
-    let v = variable_kind cells sorts t c.args.p c.in-Some.cell (sym c.in-Some.ensures) h c.if-cell-eq-VAR.true in
+    let v = variable_kind cells sorts t c.args.p c.in-Some.cell (sym c.in-Some.ensures) h (holds c.in-Some.cell.form 4 c.if-is-2.ensures) in
     subst (λ s. Shows cells sorts c.kind_of_var.result s) (sym v.kind_is) (shows_in cells sorts c.kind_of_var.result _ (c.kind_of_var.ensures.shown v.number (to_z-of_z w64 c.in-Some.cell.own (search rules) ∙ v.own_is)))
 
-pub kind_of-returns-then-cell-eq-PROJ-clause-shown : goal.kind_of-returns-then-cell-eq-PROJ-clause-shown
-kind_of-returns-then-cell-eq-PROJ-clause-shown m c = λ t h.
+pub kind_of-returns-then-is-3-clause-shown : goal.kind_of-returns-then-is-3-clause-shown
+kind_of-returns-then-is-3-clause-shown m c = λ t h.
     let cells = c.args.self.now.0 in
     let sorts = sorts_of_vars c.args.vars.now in
-    let v = projection_kind cells sorts t c.args.p c.in-Some.cell (sym c.in-Some.ensures) h c.if-cell-eq-PROJ.true in
+    let v = projection_kind cells sorts t c.args.p c.in-Some.cell (sym c.in-Some.ensures) h (holds c.in-Some.cell.form 17 c.if-is-3.ensures) in
     subst (λ s. Shows cells sorts c.kind_of_part.result s) (sym v.kind_is) (c.kind_of_part.ensures.shown v.number v.of_term (to_z-of_z w64 c.in-Some.cell.own (search rules) ∙ v.own_is) v.stands_is)
 
 pub kind_of-returns-clause-shown : goal.kind_of-returns-clause-shown
 kind_of-returns-clause-shown m c = λ t h.
     other_kind c.args.self.now.0 (sorts_of_vars c.args.vars.now) t c.args.p c.in-Some.cell (sym c.in-Some.ensures) h
-    (sym c.if-is_number_form.ensures) (sym c.if-is_truth_form.ensures) c.if-cell-eq-TUPLE.false c.if-cell-eq-VAR.false c.if-cell-eq-PROJ.false
+    (ap is_number_form c.in-Some-node_form.ensures.numbered ∙ sym c.if-is_number_form.ensures) (ap is_truth_form c.in-Some-node_form.ensures.numbered ∙ sym c.if-is_truth_form.ensures) (fails c.in-Some.cell.form 16 c.if-is.ensures) (fails c.in-Some.cell.form 4 c.if-is-2.ensures) (fails c.in-Some.cell.form 17 c.if-is-3.ensures)
 
 pub kind_of_part-returns-in-Some-part-clause-shown : goal.kind_of_part-returns-in-Some-part-clause-shown
 kind_of_part-returns-in-Some-part-clause-shown m c = λ n t e h.

@@ -1,5 +1,6 @@
 use Rattle.std.proofs.Common.{◌∙◌, sym, ap, refl, arith, rules}
 use Rattle.std.proofs.lemmas.Bool.{false≢true}
+use Rattle.term_cells.proofs.Apart.{holds, fails}
 use Rattle.term_cells.proofs.Comparing.{no, yes, first_differs, one_same, second_differs, two_same, three_same, heads_same, tuples, few, tuple_below, parts_inside, lists_differ, lists_end, parts_differ, rests_tell, rest_below}
 use Rattle.term_cells.proofs.Openings.{not_there}
 use Rattle.term_cells.proofs.Telling.{stands_tells}
@@ -26,18 +27,18 @@ pub same-returns-then-c-p : goal.same-returns-then-c-p
 same-returns-then-c-p m c = λ t u h k.
     let heads = c.if-not-same_head.ensures.0 refl in
     tuples c.args.self.now.0 t u c.args.p c.args.q c.in-Some-Some.c c.in-Some-Some.d (sym c.at.ensures ∙ c.in-Some-Some.is-0) (sym c.at-2.ensures ∙ c.in-Some-Some.is-1) h k
-    c.same_parts.result heads.0 heads.1 c.if-c-eq-TUPLE.true c.same_parts.ensures
+    c.same_parts.result heads.0 heads.1 (holds c.in-Some-Some.c.form 16 c.if-is.ensures) c.same_parts.ensures
 
 pub same-returns-else-c-p : goal.same-returns-else-c-p
 same-returns-else-c-p m c = λ t u h k.
-    let below = tuple_below c.args.self.now.0 t c.args.p c.in-Some-Some.c (sym c.at.ensures ∙ c.in-Some-Some.is-0) c.if-c-eq-TUPLE.true h in
+    let below = tuple_below c.args.self.now.0 t c.args.p c.in-Some-Some.c (sym c.at.ensures ∙ c.in-Some-Some.is-0) (holds c.in-Some-Some.c.form 16 c.if-is.ensures) h in
     absurd (omega arith)
 
 pub same-returns : goal.same-returns
 same-returns m c = λ t u h k.
     let heads = c.if-not-same_head.ensures.0 refl in
     few c.args.self.now.0 t u c.args.p c.args.q c.in-Some-Some.c c.in-Some-Some.d (sym c.at.ensures ∙ c.in-Some-Some.is-0) (sym c.at-2.ensures ∙ c.in-Some-Some.is-1) h k
-    c.same_children.result heads.0 heads.1 c.if-c-eq-TUPLE.false c.arity_of.result c.arity_of.ensures c.same_children.ensures
+    c.same_children.result heads.0 heads.1 (fails c.in-Some-Some.c.form 16 c.if-is.ensures) c.arity.result c.arity.ensures c.same_children.ensures
 
 pub same_children-returns-then-not-same_below : goal.same_children-returns-then-not-same_below
 same_children-returns-then-not-same_below m c = λ other ts us l k.
@@ -77,23 +78,23 @@ same_parts-returns-then-c-d m c = λ k n ts us.
     lists_differ c.args.self.now.0 c.args.p c.args.q k n c.in-Some-Some.c c.in-Some-Some.d (sym c.at.ensures ∙ c.in-Some-Some.is-0) (sym c.at-2.ensures ∙ c.in-Some-Some.is-1)
     c.if-c-d.true ts us
 
-pub same_parts-returns-then-c-ne-LINK : goal.same_parts-returns-then-c-ne-LINK
-same_parts-returns-then-c-ne-LINK m c = λ k n ts us.
+pub same_parts-returns-then-not-is_link : goal.same_parts-returns-then-not-is_link
+same_parts-returns-then-not-is_link m c = λ k n ts us.
     lists_end c.args.self.now.0 c.args.p c.args.q k n c.in-Some-Some.c c.in-Some-Some.d (sym c.at.ensures ∙ c.in-Some-Some.is-0) (sym c.at-2.ensures ∙ c.in-Some-Some.is-1)
-    c.if-c-d.false c.if-c-ne-LINK.true ts us
+    c.if-c-d.false (fails c.in-Some-Some.c.form 27 c.if-not-is_link.ensures) ts us
 
 pub same_parts-returns-then-not-same_below : goal.same_parts-returns-then-not-same_below
 same_parts-returns-then-not-same_below m c = λ k n ts us.
     parts_differ c.args.self.now.0 c.args.p c.args.q k n c.in-Some-Some.c c.in-Some-Some.d (sym c.at.ensures ∙ c.in-Some-Some.is-0) (sym c.at-2.ensures ∙ c.in-Some-Some.is-1)
-    c.if-c-d.false c.if-c-ne-LINK.false c.if-not-same_below.ensures ts us
+    c.if-c-d.false (holds c.in-Some-Some.c.form 27 c.if-not-is_link.ensures) c.if-not-same_below.ensures ts us
 
 pub same_parts-returns-then-c-p : goal.same_parts-returns-then-c-p
 same_parts-returns-then-c-p m c = λ k n ts us.
     rests_tell c.args.self.now.0 c.args.p c.args.q k n c.in-Some-Some.c c.in-Some-Some.d (sym c.at.ensures ∙ c.in-Some-Some.is-0) (sym c.at-2.ensures ∙ c.in-Some-Some.is-1)
-    c.same_parts.result c.if-c-d.false c.if-c-ne-LINK.false c.if-not-same_below.ensures c.same_parts.ensures ts us
+    c.same_parts.result c.if-c-d.false (holds c.in-Some-Some.c.form 27 c.if-not-is_link.ensures) c.if-not-same_below.ensures c.same_parts.ensures ts us
 
 pub same_parts-returns-else-c-p : goal.same_parts-returns-else-c-p
 same_parts-returns-else-c-p m c = λ k n ts us f g.
     let below = rest_below c.args.self.now.0 c.args.p c.args.q k n c.in-Some-Some.c c.in-Some-Some.d (sym c.at.ensures ∙ c.in-Some-Some.is-0) (sym c.at-2.ensures ∙ c.in-Some-Some.is-1)
-    c.if-c-ne-LINK.false ts f in
+    (holds c.in-Some-Some.c.form 27 c.if-not-is_link.ensures) ts f in
     absurd (omega arith)

@@ -1,6 +1,7 @@
-use Rattle.std.proofs.Common.{rules}
-use Rattle.term_cells.proofs.Building.{one_pushed}
+use Rattle.std.proofs.Common.{w64, rules}
+use Rattle.std.proofs.lemmas.Int.{to_z-of_z}
+use Rattle.term_cells.proofs.Building.{one_pushed, pushes_node}
 use Rattle.term_cells.proofs.cells.Cells.one.Goals as goal
 
 pub returns-clause-node : goal.returns-clause-node
-returns-clause-node c = one_pushed c.args.self.now c.push.new.self (record { form = c.args.form; own = c.args.own; a = c.args.p; b = 0; c = 0 }) c.push.result (search rules)
+returns-clause-node c = one_pushed _ _ _ _ (pushes_node _ _ _ _ _ _ _ _ _ _ c.node.ensures (to_z-of_z w64 c.args.own (search rules)) c.push.ensures)

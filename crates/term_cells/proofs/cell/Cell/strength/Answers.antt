@@ -1,0 +1,6 @@
+use Rattle.std.proofs.Common.{sym}
+use Rattle.term_cells.proofs.FormNumbers.{no_strength}
+use Rattle.term_cells.proofs.cell.Cell.strength.Goals as goal
+
+pub returns-in-None : goal.returns-in-None
+returns-in-None c = sym (no_strength c.args.self.form (λ f e. let none = c.in-None.ensures.each f e in cc))
