@@ -1,0 +1,9 @@
+pub mod Stacks
+pub mod Headings
+pub mod Models
+pub mod Facilities
+pub mod Statements
+pub mod Components
+pub mod Actions
+pub mod Marks
+pub mod Spelling
