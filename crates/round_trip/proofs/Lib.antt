@@ -1,0 +1,9 @@
+pub mod Goes
+pub mod Operands
+pub mod Binaries
+pub mod Signs
+pub mod Arguments
+pub mod Names
+pub mod Calls
+pub mod Spelled
+pub mod Reading
