@@ -1,0 +1,10 @@
+//! The table of components: who is there, by name, and whom a component names.
+#![tactic(auto)]
+
+mod error;
+mod slots;
+mod table;
+mod uses;
+
+pub use error::NameError;
+pub use table::{Table, name_of};
