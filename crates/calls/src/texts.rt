@@ -1,7 +1,7 @@
-//! The calls on texts: `tokens`, `module` (the reader), `conditions`, `unproved` (the first one), `meaning:FUEL:INPUT` and `code`, whose
-//! text is a module; `command`, whose text is the words of a command line.
+//! The calls on texts: `tokens`, `module` (what a file is), `conditions`, `unproved` (the first one), `meaning:FUEL:INPUT` and `code`, whose
+//! text is a file; `command`, whose text is the words of a command line.
 
-ghost use Rattle.main_form.specs.Spelling.{IsForm};
+ghost use Rattle.main_form.specs.Formed.{IsForm};
 ghost use Rattle.source_meaning.specs.Formed.{IsFormed};
 ghost use Rattle.source_meaning.specs.declared.linked.Proc.{Proc};
 
@@ -9,10 +9,12 @@ use crate::saying::{put_bytes, say, say_bytes, say_number, say_term};
 use crate::trouble::{Trouble, push};
 use crate::words::{number, numbers, two_parts};
 use command_words::{Command, read_command};
-use main_form::Module;
+use expr_parser::SyntaxKind;
+use main_form::{Module, Shape, built_is_formed, main_module};
 use main_prover::{conditions, first_unproved, link_main};
-use main_reader::{ReadError, read_module};
 use math_terms::{Desc, Name, Term, VcName};
+use module_parser::{ParseError, parse};
+use res_ast::Component;
 use res_lexer::{LexError, Token, TokenKind, tokens};
 use source_meaning::{End, Linked, MeaningError, Trace, WrongKind, meaning};
 use stack_machine::{CodeError, Image, compile};
@@ -61,25 +63,25 @@ fn say_tokens(alloc: Global, said: &mut String, text: &[u8]) -> Result<(), Troub
     }
 }
 
-fn say_read_error(said: &mut String, e: ReadError) -> Result<(), Trouble> {
-    match e {
-        ReadError::NotYet { token } => {
-            write!(said, " refused at token {token}")?;
-            Ok(())
-        }
-        ReadError::NoMemory => Err(Trouble::NoMemory),
+fn syntax_word(kind: SyntaxKind) -> Result<&'static str, Trouble> {
+    match kind {
+        SyntaxKind::Expected => Ok("Expected"),
+        SyntaxKind::TooDeep => Ok("TooDeep"),
+        SyntaxKind::EndName => Ok("EndName"),
+        SyntaxKind::NoMemory => Err(Trouble::NoMemory),
     }
 }
 
-// The tokens of a text that has some.
-fn tokens_of(alloc: Global, text: &[u8]) -> Result<Vec<Token>, Trouble> {
-    if text.len() > MOST_BYTES {
-        return Err(Trouble::NotUnderstood);
-    }
-    match tokens(alloc, text) {
-        Ok(tokens) => Ok(tokens),
-        Err(LexError::NoMemory) => Err(Trouble::NoMemory),
-        Err(_) => Err(Trouble::NotUnderstood),
+fn say_parse_error(said: &mut String, e: ParseError) -> Result<(), Trouble> {
+    match e {
+        ParseError::Lex(e) => say_lex_error(said, &e),
+        ParseError::Syntax(e) => {
+            let word = syntax_word(e.kind)?;
+            let at = e.at;
+            write!(said, " {word} at {at}")?;
+            Ok(())
+        }
+        ParseError::NoMemory => Err(Trouble::NoMemory),
     }
 }
 
@@ -251,6 +253,27 @@ fn module_answer(
     }
 }
 
+fn say_not_built(said: &mut String, name: &Name, at: u32) -> Result<(), Trouble> {
+    say(said, "NotBuilt")?;
+    say_bytes(said, name.bytes())?;
+    write!(said, " at {at}")?;
+    Ok(())
+}
+
+fn file_answer(
+    alloc: Global,
+    said: &mut String,
+    name: &str,
+    rest: &str,
+    components: &[Component],
+) -> Result<(), Trouble> {
+    built_is_formed();
+    match main_module(alloc, components)? {
+        Shape::Module(m) => module_answer(alloc, said, name, rest, &m),
+        Shape::NotBuilt { name, at } => say_not_built(said, &name, at),
+    }
+}
+
 fn read_and_answer(
     alloc: Global,
     said: &mut String,
@@ -258,13 +281,12 @@ fn read_and_answer(
     rest: &str,
     text: &[u8],
 ) -> Result<(), Trouble> {
-    let tokens = tokens_of(alloc, text)?;
-    if tokens.len() > MOST_BYTES {
+    if text.len() > MOST_BYTES {
         return Err(Trouble::NotUnderstood);
     }
-    match read_module(alloc, tokens.as_slice()) {
-        Ok(m) => module_answer(alloc, said, name, rest, &m),
-        Err(e) => say_read_error(said, e),
+    match parse(alloc, text) {
+        Ok(components) => file_answer(alloc, said, name, rest, components.as_slice()),
+        Err(e) => say_parse_error(said, e),
     }
 }
 

@@ -1,2 +1,5 @@
-pub mod Reserved
-pub mod Spelling
+pub mod Formed
+pub mod Names
+pub mod Places
+pub mod Shape
+pub mod Values

@@ -1,5 +1,5 @@
 -- The linked program of a module is formed.
-use Rattle.std.proofs.Common.{◌≡◌, ◌∙◌, sym, ap, refl, subst, ℕ, zero, suc, ℤ, pos, ◌<◌, ltb, leb, Bool, true, false, not, ◌&&◌, List, [], ◌∷◌, length, map, Option, Some, None, arith}
+use Rattle.std.proofs.Common.{◌≡◌, ◌∙◌, sym, ap, refl, subst, ℕ, zero, suc, ℤ, pos, ◌<◌, ltb, Bool, true, ◌&&◌, List, [], ◌∷◌, length, map, Option, Some, None, arith}
 use Rattle.std.proofs.lemmas.Bool.{and_parts, and_from, ltb-true}
 use Rattle.std.specs.Prelude.{IsTrue}
 use Rattle.std.specs.List.{list_all}
@@ -34,11 +34,9 @@ use Rattle.main_form.specs.declared.module.Stmt.TheOpen.{Stmt-F}
 use Rattle.main_form.specs.declared.module.Stmt.TheViews.{roll-Stmt}
 use Rattle.main_form.specs.declared.module.Stmt.TheFolds.{map-Stmt, fold-roll-Stmt, ind-Stmt}
 use Rattle.main_form.specs.declared.module.Module.{Module}
-use Rattle.main_form.specs.Spelling.{Judged, expr_step, expr_fits, guard_step, guard_fits, stmt_fits_step, stmt_fits, all_true, declared, IsForm}
-use Rattle.main_vcs.specs.Walk.{names_of, number_of}
+use Rattle.main_form.specs.Formed.{expr_step, expr_fits, guard_step, guard_fits, stmt_step, stmt_fits, IsForm}
 use Rattle.main_vcs.specs.Linking.{two, linked_expr_step, linked_expr, operator, linked_guard_step, linked_guard, linked_stmt_step, linked_stmt, main_of}
 use Rattle.main_vcs.specs.Soundness.{IsLinkOf}
-use Rattle.main_prover.proofs.Declaring.{names_declared}
 
 abbrev pub scalars : List TypeForm
 scalars = form.Int ∷ form.Bool ∷ []
@@ -73,32 +71,25 @@ module _ (ns : List (List ℕ)) where
   IsNumber e = expr_fits room e ≡ true → kind_of kinds (linked_expr e) ≡ Some Number
 
   abbrev LayerIsNumber : Expr-F Expr → Type 0
-  LayerIsNumber x = (expr_step room (map-Expr Expr Judged (fold-Expr Judged (expr_step room)) x)).fits ≡ true → kind_of kinds (linked_expr_step (map-Expr Expr LExpr linked_expr x)) ≡ Some Number
+  LayerIsNumber x = expr_step room (map-Expr Expr Bool (expr_fits room) x) ≡ true → kind_of kinds (linked_expr_step (map-Expr Expr LExpr linked_expr x)) ≡ Some Number
 
   rolled : (x : Expr-F Expr) → LayerIsNumber x → IsNumber (roll-Expr x)
   rolled x h f =
       ap (kind_of kinds) (fold-roll-Expr LExpr linked_expr_step x)
-      ∙ h (sym (ap (λ (j : Judged). j.fits) (fold-roll-Expr Judged (expr_step room) x)) ∙ f)
-
-  both_fit : (a b : Expr) → expr_fits room a && expr_fits room b && leb 2 (fold-Expr Judged (expr_step room) b).strength ≡ true → (expr_fits room a ≡ true) × (expr_fits room b ≡ true)
-  both_fit a b f = and_parts (expr_fits room a) (expr_fits room b) (and_parts (expr_fits room a && expr_fits room b) (leb 2 (fold-Expr Judged (expr_step room) b).strength) f).0
+      ∙ h (sym (fold-roll-Expr Bool (expr_step room) x) ∙ f)
 
   layer : (y : Expr-F ((e : Expr) × IsNumber e)) → LayerIsNumber (map-Expr ((e : Expr) × IsNumber e) Expr (λ e. e.0) y)
-  layer (Expr-F.Number l) f = fold-roll-LExpr (Option Kind) (kind_step kinds) (LExpr-F.Const (Scalar.Int (number_of l)))
+  layer (Expr-F.Number n) f = fold-roll-LExpr (Option Kind) (kind_step kinds) (LExpr-F.Const (Scalar.Int n))
   layer (Expr-F.Variable k) f = fold-roll-LExpr (Option Kind) (kind_step kinds) (LExpr-F.Get (Local k)) ∙ kind_here ns k (ltb-true k room f)
   layer Expr-F.Remaining f = fold-roll-LExpr (Option Kind) (kind_step kinds) LExpr-F.Remaining
-  layer (Expr-F.Brackets a) f = a.1 f
   layer (Expr-F.Minus at a) f =
       let zero_expr = roll-LExpr (LExpr-F.Const (Scalar.Int (pos 0))) in
-      let fits_a = (fold-Expr Judged (expr_step room) a.0) in
-      let one = and_parts (fits_a.fits && leb 2 fits_a.strength) (not fits_a.is_plain) f in
-      let parts = and_parts fits_a.fits (leb 2 fits_a.strength) one.0 in
-      kind_of_two op.Sub zero_expr (linked_expr a.0) (Some Number) (Some Number) (fold-roll-LExpr (Option Kind) (kind_step kinds) (LExpr-F.Const (Scalar.Int (pos 0)))) (a.1 parts.0)
+      kind_of_two op.Sub zero_expr (linked_expr a.0) (Some Number) (Some Number) (fold-roll-LExpr (Option Kind) (kind_step kinds) (LExpr-F.Const (Scalar.Int (pos 0)))) (a.1 f)
   layer (Expr-F.Add at a b) f =
-      let p = both_fit a.0 b.0 f in
+      let p = and_parts (expr_fits room a.0) (expr_fits room b.0) f in
       kind_of_two op.Add (linked_expr a.0) (linked_expr b.0) (Some Number) (Some Number) (a.1 p.0) (b.1 p.1)
   layer (Expr-F.Sub at a b) f =
-      let p = both_fit a.0 b.0 f in
+      let p = and_parts (expr_fits room a.0) (expr_fits room b.0) f in
       kind_of_two op.Sub (linked_expr a.0) (linked_expr b.0) (Some Number) (Some Number) (a.1 p.0) (b.1 p.1)
 
   pub is_number : (e : Expr) → IsNumber e
@@ -115,31 +106,25 @@ module _ (ns : List (List ℕ)) where
   abbrev pub IsTruth : Guard → Type 0
   IsTruth g = guard_fits room g ≡ true → kind_of kinds (linked_guard g) ≡ Some Truth
 
-  abbrev pub judged_guard : Guard → Judged
-  judged_guard g = fold-Guard Judged (guard_step room) g
-
   abbrev LayerIsTruth : Guard-F Guard → Type 0
-  LayerIsTruth x = (guard_step room (map-Guard Guard Judged judged_guard x)).fits ≡ true → kind_of kinds (linked_guard_step (map-Guard Guard LExpr linked_guard x)) ≡ Some Truth
+  LayerIsTruth x = guard_step room (map-Guard Guard Bool (guard_fits room) x) ≡ true → kind_of kinds (linked_guard_step (map-Guard Guard LExpr linked_guard x)) ≡ Some Truth
 
   guard_rolled : (x : Guard-F Guard) → LayerIsTruth x → IsTruth (roll-Guard x)
   guard_rolled x h f =
       ap (kind_of kinds) (fold-roll-Guard LExpr linked_guard_step x)
-      ∙ h (sym (ap (λ (j : Judged). j.fits) (fold-roll-Guard Judged (guard_step room) x)) ∙ f)
+      ∙ h (sym (fold-roll-Guard Bool (guard_step room) x) ∙ f)
 
   guard_layer : (y : Guard-F ((g : Guard) × IsTruth g)) → LayerIsTruth (map-Guard ((g : Guard) × IsTruth g) Guard (λ e. e.0) y)
   guard_layer (Guard-F.Compare c a b) f =
       let p = and_parts (expr_fits room a) (expr_fits room b) f in
       kind_of_two (operator c) (linked_expr a) (linked_expr b) (Some Number) (Some Number) (is_number a p.0) (is_number b p.1) ∙ operator_kind c
-  guard_layer (Guard-F.Brackets g) f = g.1 f
   guard_layer (Guard-F.Not g) f =
-      let p = and_parts (guard_fits room g.0) (leb 3 (judged_guard g.0).strength) f in
-      fold-roll-LExpr (Option Kind) (kind_step kinds) (LExpr-F.Not (linked_guard g.0)) ∙ ap (λ k. two_truths (Some Truth) k) (g.1 p.0)
+      fold-roll-LExpr (Option Kind) (kind_step kinds) (LExpr-F.Not (linked_guard g.0)) ∙ ap (λ k. two_truths (Some Truth) k) (g.1 f)
   guard_layer (Guard-F.And g h) f =
-      let one = and_parts (guard_fits room g.0 && guard_fits room h.0 && leb 2 (judged_guard g.0).strength) (leb 3 (judged_guard h.0).strength) f in
-      let p = and_parts (guard_fits room g.0) (guard_fits room h.0) (and_parts (guard_fits room g.0 && guard_fits room h.0) (leb 2 (judged_guard g.0).strength) one.0).0 in
+      let p = and_parts (guard_fits room g.0) (guard_fits room h.0) f in
       kind_of_two op.And (linked_guard g.0) (linked_guard h.0) (Some Truth) (Some Truth) (g.1 p.0) (h.1 p.1)
   guard_layer (Guard-F.Or g h) f =
-      let p = and_parts (guard_fits room g.0) (guard_fits room h.0) (and_parts (guard_fits room g.0 && guard_fits room h.0) (leb 2 (judged_guard h.0).strength) f).0 in
+      let p = and_parts (guard_fits room g.0) (guard_fits room h.0) f in
       kind_of_two op.Or (linked_guard g.0) (linked_guard h.0) (Some Truth) (Some Truth) (g.1 p.0) (h.1 p.1)
 
   is_truth : (g : Guard) → IsTruth g
@@ -149,12 +134,12 @@ module _ (ns : List (List ℕ)) where
   Fits x = stmt_fits room x ≡ true → fits kinds (linked_stmt x) ≡ true
 
   abbrev LayerFits : Stmt-F Stmt → Type 0
-  LayerFits x = stmt_fits_step room (map-Stmt Stmt Bool (stmt_fits room) x) ≡ true → fits kinds (linked_stmt_step (map-Stmt Stmt LStmt linked_stmt x)) ≡ true
+  LayerFits x = stmt_step room (map-Stmt Stmt Bool (stmt_fits room) x) ≡ true → fits kinds (linked_stmt_step (map-Stmt Stmt LStmt linked_stmt x)) ≡ true
 
   stmt_rolled : (x : Stmt-F Stmt) → LayerFits x → Fits (roll-Stmt x)
   stmt_rolled x h f =
       ap (fits kinds) (fold-roll-Stmt LStmt linked_stmt_step x)
-      ∙ h (sym (fold-roll-Stmt Bool (stmt_fits_step room) x) ∙ f)
+      ∙ h (sym (fold-roll-Stmt Bool (stmt_step room) x) ∙ f)
 
   abbrev pub bare : List ((x : Stmt) × Fits x) → List Stmt
   bare ys = map (λ e. e.0) ys
@@ -184,13 +169,10 @@ module _ (ns : List (List ℕ)) where
       fold-roll-LStmt Bool (fits_step kinds) (LStmt-F.LSet (Local k) (linked_expr e))
       ∙ ap (λ j. same_kind j (kind_of kinds (linked_expr e))) (kind_here ns k (ltb-true k room p.0))
       ∙ ap (λ j. same_kind (Some Number) j) (is_number e p.1)
-  stmt_layer (Stmt-F.If g a None) f =
-      let one = and_parts (guard_fits room g && all_true (map (stmt_fits room) (bare a))) true f in
-      let p = and_parts (guard_fits room g) (all_true (map (stmt_fits room) (bare a))) one.0 in
-      choice_fits g (bare a) [] p.0 (all_fit a p.1) refl
-  stmt_layer (Stmt-F.If g a (Some b)) f =
-      let one = and_parts (guard_fits room g && all_true (map (stmt_fits room) (bare a))) (all_true (map (stmt_fits room) (bare b))) f in
-      let p = and_parts (guard_fits room g) (all_true (map (stmt_fits room) (bare a))) one.0 in
+  stmt_layer (Stmt-F.If g a b) f =
+      let each = list_all (λ x. x) (map (stmt_fits room) (bare a)) in
+      let one = and_parts (guard_fits room g && each) (list_all (λ x. x) (map (stmt_fits room) (bare b))) f in
+      let p = and_parts (guard_fits room g) each one.0 in
       choice_fits g (bare a) (map linked_stmt (bare b)) p.0 (all_fit a p.1) (all_fit b one.1)
 
   stmt_is_fit : (x : Stmt) → Fits x
@@ -204,8 +186,7 @@ module _ (ns : List (List ℕ)) where
 
 pub link_is_formed : (m : Module) (l : Linked) → IsForm m → IsLinkOf m l → IsFormed l (main_of m)
 link_is_formed m l form link =
-    let ns = names_of m in
-    let body = subst (λ ds. IsTrue (list_all (stmt_fits (length ds)) m.body)) (sym (names_declared m)) form.body in
+    let ns = m.variables in
     record {
       main = link.main;
       procs = link.procs;
@@ -214,5 +195,5 @@ link_is_formed m l form link =
       streams = refl;
       result = refl;
       fits = subst (λ ts. IsTrue (list_all has_kind (kinds_of ts (map (λ n. 0) ns)) && list_all (fits (kinds_of ts (map (λ n. 0) ns))) (map linked_stmt m.body))) (sym link.types)
-          (and_from (list_all has_kind (numbers_of ns)) (list_all (fits (numbers_of ns)) (map linked_stmt m.body)) (each_has_kind ns) (body_fits ns m.body body));
+          (and_from (list_all has_kind (numbers_of ns)) (list_all (fits (numbers_of ns)) (map linked_stmt m.body)) (each_has_kind ns) (body_fits ns m.body form));
     }

@@ -1,6 +1,5 @@
 mod Choosing
 mod Counted
-mod Declaring
 mod FirstOnes
 mod Forming
 mod Going

@@ -1,9 +1,8 @@
 -- What is made of expressions and guards, by their forms.
-use Rattle.std.proofs.Common.{◌≡◌, ◌∙◌, sym, ap, refl, ℕ, pos, List, [], ◌∷◌, ◌++◌, append_assoc}
+use Rattle.std.proofs.Common.{◌≡◌, ◌∙◌, sym, ap, refl, ℕ, ℤ, pos, List, [], ◌∷◌, ◌++◌, append_assoc}
 use Rattle.std.specs.Prelude.{slice_index_or}
 use Rattle.math_terms.specs.declared.term.Term.{Term}
 use Rattle.vc_sequents.specs.declared.sequent.VcKind.TheVariants as kind
-use Rattle.main_form.specs.declared.module.Literal.{Literal}
 use Rattle.main_form.specs.declared.module.Comparison.{Comparison}
 use Rattle.main_form.specs.declared.module.Expr.{Expr}
 use Rattle.main_form.specs.declared.module.Expr.TheVariants as ex
@@ -16,7 +15,7 @@ use Rattle.main_form.specs.declared.module.Guard.TheOpen.{Guard-F}
 use Rattle.main_form.specs.declared.module.Guard.TheViews.{roll-Guard}
 use Rattle.main_form.specs.declared.module.Guard.TheFolds.{fold-roll-Guard, map-Guard}
 use Rattle.main_vcs.specs.Terms.{num, len, add, sub, both, either, negated, bounds, in_bounds}
-use Rattle.main_vcs.specs.Walk.{Path, Condition, with_hyps, number_of, compared}
+use Rattle.main_vcs.specs.Walk.{Path, Condition, with_hyps, compared}
 use Rattle.main_prover.specs.working.Making.{Made, made, condition_at, sum_made, expr_made_step, expr_made, guard_made_step, guard_made}
 
 expr_rolled : (e : Expr) (x : Expr-F Expr) (p : Path) → e ≡ roll-Expr x → expr_made e p ≡ expr_made_step (map-Expr Expr (Path → Made) expr_made x) p
@@ -26,8 +25,8 @@ guard_rolled : (g : Guard) (x : Guard-F Guard) (p : Path) → g ≡ roll-Guard x
 guard_rolled g x p is = ap (λ d. guard_made d p) is ∙ ap (λ (f : Path → Made). f p) (fold-roll-Guard (Path → Made) guard_made_step x)
 
 module _ (p : Path) where
-  pub made_number : (e : Expr) (l : Literal) → e ≡ ex.Number l → expr_made e p ≡ made [] (num (number_of l)) p
-  made_number e l is = expr_rolled e (Expr-F.Number l) p (is ∙ sym (ex.rolls-Number l))
+  pub made_number : (e : Expr) (n : ℤ) → e ≡ ex.Number n → expr_made e p ≡ made [] (num n) p
+  made_number e n is = expr_rolled e (Expr-F.Number n) p (is ∙ sym (ex.rolls-Number n))
 
   pub made_variable : (e : Expr) (k : ℕ) → e ≡ ex.Variable k → expr_made e p ≡ made [] (slice_index_or p.terms k (num (pos 0))) p
   made_variable e k is = expr_rolled e (Expr-F.Variable k) p (is ∙ sym (ex.rolls-Variable k))

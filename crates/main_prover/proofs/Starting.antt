@@ -21,7 +21,7 @@ use Rattle.main_form.specs.declared.module.Stmt.TheFolds.{map-Stmt, fold-roll-St
 use Rattle.main_form.specs.declared.module.Claim.{Claim}
 use Rattle.main_form.specs.declared.module.Module.{Module}
 use Rattle.main_vcs.specs.Terms.{var, empty_string, equal, negated}
-use Rattle.main_vcs.specs.Walk.{Path, Check, End, Items, WithTerm, Onward, with_hyps, expr_step, expr, guard_step, guard, in_order, stmt_step, stmt, stmts, at_end, names_of, begins, items_of, conditions, conditions_of}
+use Rattle.main_vcs.specs.Walk.{Path, Check, End, Items, WithTerm, Onward, with_hyps, expr_step, expr, guard_step, guard, in_order, stmt_step, stmt, stmts, at_end, begins, items_of, conditions, conditions_of}
 
 -- Where these hypotheses are true, the output is the empty string at first.
 abbrev pub Starts : List Term → Type 0
@@ -63,7 +63,6 @@ layer : (y : Expr-F ((e : Expr) × KeepsExpr e)) → Keeps (expr_step (map-Expr 
 layer (Expr-F.Number l) go well p s = well _ p s
 layer (Expr-F.Variable k) go well p s = well _ p s
 layer Expr-F.Remaining go well p s = well _ _ (more p.hyps _ s)
-layer (Expr-F.Brackets a) go well p s = a.1 go well p s
 layer (Expr-F.Minus at a) go well p s = a.1 _ (λ t q h. (h, well _ q h)) p s
 layer (Expr-F.Add at a b) go well p s = a.1 _ (λ t q h. b.1 _ (λ u r k. (k, well _ r k)) q h) p s
 layer (Expr-F.Sub at a b) go well p s = a.1 _ (λ t q h. b.1 _ (λ u r k. (k, well _ r k)) q h) p s
@@ -79,7 +78,6 @@ KeepsGuard g = Keeps (guard g)
 
 guard_layer : (y : Guard-F ((g : Guard) × KeepsGuard g)) → Keeps (guard_step (map-Guard Guard (WithTerm → Path → Items) guard (map-Guard ((g : Guard) × KeepsGuard g) Guard (λ e. e.0) y)))
 guard_layer (Guard-F.Compare c a b) go well p s = expr_keeps a _ (λ t q h. expr_keeps b _ (λ u r k. well _ r k) q h) p s
-guard_layer (Guard-F.Brackets g) go well p s = g.1 go well p s
 guard_layer (Guard-F.Not g) go well p s = g.1 _ (λ t q h. well _ q h) p s
 guard_layer (Guard-F.And g h) go well p s = g.1 _ (λ t q k. h.1 _ (λ u r l. well _ r l) q k) p s
 guard_layer (Guard-F.Or g h) go well p s = g.1 _ (λ t q k. h.1 _ (λ u r l. well _ r l) q k) p s
@@ -117,8 +115,7 @@ module _ (names : List (List ℕ)) (input : List ℕ) where
   stmt_layer (Stmt-F.Read at k) go well p s = (s, well _ (more p.hyps _ s))
   stmt_layer (Stmt-F.Write e) go well p s = expr_keeps e _ (λ t q h. well _ h) p s
   stmt_layer (Stmt-F.Assign k e) go well p s = expr_keeps e _ (λ t q h. well _ h) p s
-  stmt_layer (Stmt-F.If g a None) go well p s = guard_keeps g _ (two_keep (after a go) go (all_keep a go well) well) p s
-  stmt_layer (Stmt-F.If g a (Some b)) go well p s =
+  stmt_layer (Stmt-F.If g a b) go well p s =
       guard_keeps g _ (two_keep (after a go) (after b go) (all_keep a go well) (all_keep b go well)) p s
 
   stmt_rolled : (x : Stmt-F Stmt) → KeepsOn (stmt_step names input (map-Stmt Stmt (Onward → Onward) (stmt names input) x)) → KeepsStmt (roll-Stmt x)
@@ -143,4 +140,4 @@ end_starts : (c : Claim) (at : ℕ) → GoesOnWell (at_end c at)
 end_starts c at p s = (s, tt)
 
 pub conditions_start : (m : Module) → AllByRecursion (λ c. Starts c.hyps) (conditions_of m)
-conditions_start m = each_starts (items_of m) (body_keeps (names_of m) m.input m.body (at_end m.claim m.end_at) (end_starts m.claim m.end_at) (begins m) (begins_there m))
+conditions_start m = each_starts (items_of m) (body_keeps m.variables m.input m.body (at_end m.claim m.end_at) (end_starts m.claim m.end_at) (begins m) (begins_there m))

@@ -1,7 +1,7 @@
 -- The conditions of a walk over statements, and what a judge does over them.
 use Rattle.std.proofs.Common.{◌≡◌, ◌∙◌, sym, ap, refl, subst, ℕ, ◌+◌, ◌*◌, List, [], ◌∷◌, ◌++◌, map, append_assoc, Option, Some, None, Result, Ok, Err, arith}
 use Rattle.std.specs.Prelude.{sum, MatchResult}
-use Rattle.main_form.specs.Spelling.{stmt_count}
+use Rattle.main_prover.specs.working.Remaining.{stmt_count}
 use Rattle.std.specs.Borrow.{Bor}
 use Rattle.std.specs.Result.{IsErrAnd}
 use Rattle.std.proofs.lemmas.List.{map_push}
@@ -16,19 +16,19 @@ use Rattle.main_form.specs.declared.module.Stmt.TheViews.{roll-Stmt}
 use Rattle.main_form.specs.declared.module.Stmt.TheFolds.{map-Stmt, fold-roll-Stmt}
 use Rattle.main_form.specs.declared.module.Module.{Module}
 use Rattle.main_vcs.specs.Terms.{negated}
-use Rattle.main_vcs.specs.Walk.{Path, Condition, Items, Onward, conditions, with_hyps, after_read, in_order, stmt_step, stmt, stmts, names_of, at_end}
+use Rattle.main_vcs.specs.Walk.{Path, Condition, Items, Onward, conditions, with_hyps, after_read, in_order, stmt_step, stmt, stmts, at_end}
 use Rattle.main_prover.specs.declared.judge.Judge.{Judge}
 use Rattle.main_prover.specs.declared.judge.Stop.{Stop}
 use Rattle.main_prover.specs.working.Judging.{Goes, Stops, Judges}
 use Rattle.main_prover.specs.working.Making.{Made, condition_at, expr_made, guard_made, under, left_over}
 use Rattle.main_prover.specs.working.Points.{assigned, written}
-use Rattle.main_prover.specs.working.Remaining.{or_no_stmts, readable, weights}
+use Rattle.main_prover.specs.working.Remaining.{readable, weights}
 use Rattle.main_prover.proofs.Going.{goes_then, stops_early, stops_late, judges_then}
 use Rattle.main_prover.proofs.Walking.{conditions_append, expr_makes, guard_makes}
 
-under_push : (m : Module) (xss : List (List Stmt)) (xs : List Stmt) (go : Onward) → under m (xss ++ xs ∷ []) go ≡ stmts (names_of m) m.input xs (under m xss go)
+under_push : (m : Module) (xss : List (List Stmt)) (xs : List Stmt) (go : Onward) → under m (xss ++ xs ∷ []) go ≡ stmts m.variables m.input xs (under m xss go)
 under_push m [] xs go = refl
-under_push m (ys ∷ xss) xs go = under_push m xss xs (stmts (names_of m) m.input ys go)
+under_push m (ys ∷ xss) xs go = under_push m xss xs (stmts m.variables m.input ys go)
 
 pub sum_first : (x : Stmt) (xs : List Stmt) → sum (map stmt_count (x ∷ xs)) ≡ stmt_count x + sum (map stmt_count xs)
 sum_first x xs = sum_by-cons (λ n. n) (stmt_count x) (map stmt_count xs)
@@ -41,7 +41,7 @@ pub now_same : (a b : List (Bor (List Stmt))) → a ≡ b → map (λ ys. ys.now
 now_same a b e = ap (λ ls. map (λ (ys : Bor (List Stmt)). ys.now) ls) e
 
 -- the last list
-pub left_push : (m : Module) (xss : List (List Stmt)) (xs : List Stmt) → left_over m (xss ++ xs ∷ []) ≡ stmts (names_of m) m.input xs (left_over m xss)
+pub left_push : (m : Module) (xss : List (List Stmt)) (xs : List Stmt) → left_over m (xss ++ xs ∷ []) ≡ stmts m.variables m.input xs (left_over m xss)
 left_push m xss xs = under_push m xss xs (at_end m.claim m.end_at)
 
 pub weights_push : (xss : List (List Stmt)) (xs : List Stmt) → weights (xss ++ xs ∷ []) ≡ weights xss + (1 + 8 * sum (map stmt_count xs))
@@ -65,15 +65,10 @@ module _ (names : List (List ℕ)) (input : List ℕ) (go : Onward) (p : Path) w
       ap conditions (stmt_rolled x (Stmt-F.Assign k e) (is ∙ sym (st.rolls-Assign k e)))
       ∙ expr_makes e (λ t q. go (assigned k t q)) p
 
-  pub step_if : (x : Stmt) (g : Guard) (a : List Stmt) (b : Option (List Stmt)) → x ≡ st.If g a b → let y = guard_made g p in conditions (stmt names input x go p) ≡ y.conditions ++ (conditions (stmts names input a go (with_hyps (y.term ∷ []) y.point)) ++ conditions (stmts names input (or_no_stmts b) go (with_hyps (negated y.term ∷ []) y.point)))
-  step_if x g a None is =
+  pub step_if : (x : Stmt) (g : Guard) (a : List Stmt) (b : List Stmt) → x ≡ st.If g a b → let y = guard_made g p in conditions (stmt names input x go p) ≡ y.conditions ++ (conditions (stmts names input a go (with_hyps (y.term ∷ []) y.point)) ++ conditions (stmts names input b go (with_hyps (negated y.term ∷ []) y.point)))
+  step_if x g a b is =
       let y = guard_made g p in
-      ap conditions (stmt_rolled x (Stmt-F.If g a None) (is ∙ sym (st.rolls-If g a None)))
-      ∙ guard_makes g (λ t q. stmts names input a go (with_hyps (t ∷ []) q) ++ go (with_hyps (negated t ∷ []) q)) p
-      ∙ ap (λ cs. y.conditions ++ cs) (conditions_append (stmts names input a go (with_hyps (y.term ∷ []) y.point)) (go (with_hyps (negated y.term ∷ []) y.point)))
-  step_if x g a (Some b) is =
-      let y = guard_made g p in
-      ap conditions (stmt_rolled x (Stmt-F.If g a (Some b)) (is ∙ sym (st.rolls-If g a (Some b))))
+      ap conditions (stmt_rolled x (Stmt-F.If g a b) (is ∙ sym (st.rolls-If g a b)))
       ∙ guard_makes g (λ t q. stmts names input a go (with_hyps (t ∷ []) q) ++ stmts names input b go (with_hyps (negated t ∷ []) q)) p
       ∙ ap (λ cs. y.conditions ++ cs) (conditions_append (stmts names input a go (with_hyps (y.term ∷ []) y.point)) (stmts names input b go (with_hyps (negated y.term ∷ []) y.point)))
 
@@ -112,17 +107,17 @@ module _ (m : Module) where
       subst (λ x. Judges m all j x l) (sym then) (begins_stop all cs (f p) j s e first)
 
   -- a path that begins with statements
-  path_same : (left : List (List Stmt)) (a b : List Stmt) (p q : Path) → b ≡ a → q ≡ p → conditions (left_over m (left ++ b ∷ []) q) ≡ conditions (stmts (names_of m) m.input a (left_over m left) p)
+  path_same : (left : List (List Stmt)) (a b : List Stmt) (p q : Path) → b ≡ a → q ≡ p → conditions (left_over m (left ++ b ∷ []) q) ≡ conditions (stmts m.variables m.input a (left_over m left) p)
   path_same left a b p q is same =
       ap (λ (f : Onward). conditions (f q)) (left_push m left b)
-      ∙ ap (λ xs. conditions (stmts (names_of m) m.input xs (left_over m left) q)) is
-      ∙ ap (λ o. conditions (stmts (names_of m) m.input a (left_over m left) o)) same
+      ∙ ap (λ xs. conditions (stmts m.variables m.input xs (left_over m left) q)) is
+      ∙ ap (λ o. conditions (stmts m.variables m.input a (left_over m left) o)) same
 
-  pub if_judges : (all cs : List Condition) (left : List (List Stmt)) (a b c d : List Stmt) (p q o n : Path) (j k l : Judge) (r : Result (Unit {0}) Stop) → let go = left_over m left in all ≡ cs ++ (conditions (stmts (names_of m) m.input a go p) ++ conditions (stmts (names_of m) m.input b go o)) → c ≡ a → d ≡ b → q ≡ p → n ≡ o → Goes m cs j k → Judges m (conditions (left_over m (left ++ c ∷ []) q) ++ conditions (left_over m (left ++ d ∷ []) n)) k r l → Judges m all j r l
+  pub if_judges : (all cs : List Condition) (left : List (List Stmt)) (a b c d : List Stmt) (p q o n : Path) (j k l : Judge) (r : Result (Unit {0}) Stop) → let go = left_over m left in all ≡ cs ++ (conditions (stmts m.variables m.input a go p) ++ conditions (stmts m.variables m.input b go o)) → c ≡ a → d ≡ b → q ≡ p → n ≡ o → Goes m cs j k → Judges m (conditions (left_over m (left ++ c ∷ []) q) ++ conditions (left_over m (left ++ d ∷ []) n)) k r l → Judges m all j r l
   if_judges all cs left a b c d p q o n j k l r e ea eb ep eo first then =
       let go = left_over m left in
-      let xs = conditions (stmts (names_of m) m.input a go p) in
-      let ys = conditions (stmts (names_of m) m.input b go o) in
+      let xs = conditions (stmts m.variables m.input a go p) in
+      let ys = conditions (stmts m.variables m.input b go o) in
       let one = path_same left a c p q ea ep in
       let two = path_same left b d o n eb eo in
       let same : conditions (left_over m (left ++ c ∷ []) q) ++ conditions (left_over m (left ++ d ∷ []) n) ≡ xs ++ ys =
@@ -134,10 +129,10 @@ module _ (m : Module) where
   empty_last all left xs p j k r e is h =
       subst (λ cs. Judges m cs j r k) (sym (ap (λ ls. conditions (left_over m ls p)) e ∙ path_same left [] xs p p is refl)) h
 
-  pub full_last : (all left rest : List (List Stmt)) (x : Stmt) (xs ys : List Stmt) (p : Path) (j k : Judge) (r : Result (Unit {0}) Stop) → all ≡ left ++ xs ∷ [] → xs ≡ x ∷ ys → rest ≡ left ++ ys ∷ [] → Judges m (conditions (stmt (names_of m) m.input x (left_over m rest) p)) j r k → Judges m (conditions (left_over m all p)) j r k
+  pub full_last : (all left rest : List (List Stmt)) (x : Stmt) (xs ys : List Stmt) (p : Path) (j k : Judge) (r : Result (Unit {0}) Stop) → all ≡ left ++ xs ∷ [] → xs ≡ x ∷ ys → rest ≡ left ++ ys ∷ [] → Judges m (conditions (stmt m.variables m.input x (left_over m rest) p)) j r k → Judges m (conditions (left_over m all p)) j r k
   full_last all left rest x xs ys p j k r e is er h =
-      let tail : left_over m rest ≡ stmts (names_of m) m.input ys (left_over m left) = ap (left_over m) er ∙ left_push m left ys in
-      let there = subst (λ (go : Onward). Judges m (conditions (stmt (names_of m) m.input x go p)) j r k) tail h in
+      let tail : left_over m rest ≡ stmts m.variables m.input ys (left_over m left) = ap (left_over m) er ∙ left_push m left ys in
+      let there = subst (λ (go : Onward). Judges m (conditions (stmt m.variables m.input x go p)) j r k) tail h in
       subst (λ cs. Judges m cs j r k) (sym (ap (λ ls. conditions (left_over m ls p)) e ∙ path_same left (x ∷ ys) xs p p is refl)) there
 
   -- two paths over the same lists

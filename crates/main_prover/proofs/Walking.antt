@@ -64,7 +64,6 @@ layer : (y : Expr-F ((e : Expr) × MakesExpr e)) → LayerMakes (map-Expr ((e : 
 layer (Expr-F.Number l) = λ go p. refl
 layer (Expr-F.Variable k) = λ go p. refl
 layer Expr-F.Remaining = λ go p. refl
-layer (Expr-F.Brackets a) = a.1
 layer (Expr-F.Minus at a) = summed (λ go p. expr a.0 (λ t q. go (sub (num (pos 0)) t) q) p) (λ p. made (expr_made a.0 p).conditions (sub (num (pos 0)) (expr_made a.0 p).term) (expr_made a.0 p).point) at (one_part (expr a.0) (expr_made a.0) (sub (num (pos 0))) a.1)
 layer (Expr-F.Add at a b) = summed (λ go p. expr a.0 (λ t q. expr b.0 (λ u r. go (add t u) r) q) p) _ at (two_parts (expr a.0) (expr b.0) (expr_made a.0) (expr_made b.0) add a.1 b.1)
 layer (Expr-F.Sub at a b) = summed (λ go p. expr a.0 (λ t q. expr b.0 (λ u r. go (sub t u) r) q) p) _ at (two_parts (expr a.0) (expr b.0) (expr_made a.0) (expr_made b.0) sub a.1 b.1)
@@ -88,7 +87,6 @@ guard_rolled x h =
 
 guard_layer : (y : Guard-F ((g : Guard) × MakesGuard g)) → LayerMakesGuard (map-Guard ((g : Guard) × MakesGuard g) Guard (λ e. e.0) y)
 guard_layer (Guard-F.Compare c a b) = two_parts (expr a) (expr b) (expr_made a) (expr_made b) (compared c) (expr_makes a) (expr_makes b)
-guard_layer (Guard-F.Brackets g) = g.1
 guard_layer (Guard-F.Not g) = one_part (guard g.0) (guard_made g.0) negated g.1
 guard_layer (Guard-F.And g h) = two_parts (guard g.0) (guard h.0) (guard_made g.0) (guard_made h.0) both g.1 h.1
 guard_layer (Guard-F.Or g h) = two_parts (guard g.0) (guard h.0) (guard_made g.0) (guard_made h.0) either g.1 h.1

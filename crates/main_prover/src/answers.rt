@@ -2,7 +2,7 @@
 
 ghost use Rattle.std.specs.Prelude.{◌≡◌, IfOk, MatchOption};
 ghost use Rattle.std.specs.List.{AllByRecursion};
-ghost use Rattle.main_form.specs.Spelling.{IsForm};
+ghost use Rattle.main_form.specs.Formed.{IsForm};
 ghost use Rattle.main_vcs.specs.Walk.{conditions_of};
 ghost use Rattle.main_prover.specs.Proving.{IsFirstUnproved, IsProved, vcs_of};
 

@@ -9,7 +9,7 @@ ghost use Rattle.main_prover.specs.working.Points.{point_of};
 
 use crate::judge::{Judge, Stop};
 use crate::path::Path;
-use crate::terms::{add, both, compared, either, in_bounds, len, literal, negated, sub};
+use crate::terms::{add, both, compared, either, in_bounds, len, negated, number, sub};
 use main_form::{Comparison, Expr, Guard, Module};
 use math_terms::{NoMemory, Term};
 use std::alloc::Global;
@@ -138,10 +138,9 @@ impl Judge {
         ensures { Makes m.now (expr_made e.now (point_of path.old)) self.old result (point_of path.new) self.new }
     {
         match e {
-            Expr::Number(l) => or_stop(literal(*l)),
+            Expr::Number(n) => Ok(number(*n)),
             Expr::Variable(k) => or_stop(path.term(self.alloc, *k)),
             Expr::Remaining => or_stop(remaining(self.alloc, path)),
-            Expr::Brackets(a) => self.expr(m, a.get(), path),
             Expr::Minus(at, a) => {
                 let a = self.expr(m, a.get(), path);
                 self.negative(m, *at, path, a)
@@ -170,7 +169,6 @@ impl Judge {
                 let b = self.expr(m, b, path);
                 comparison(self.alloc, *c, a, b)
             }
-            Guard::Brackets(g) => self.guard(m, g.get(), path),
             Guard::Not(g) => {
                 let g = self.guard(m, g.get(), path);
                 negation(self.alloc, g)

@@ -1,6 +1,6 @@
 //! Laws of the definitions. The functions do nothing: their contracts are what is proved.
 
-ghost use Rattle.main_form.specs.Spelling.{IsForm};
+ghost use Rattle.main_form.specs.Formed.{IsForm};
 ghost use Rattle.main_form.specs.declared.module.Module.{Module};
 ghost use Rattle.main_prover.specs.Proving.{NoneFirst, OneFirst, ProvedIsValid};
 ghost use Rattle.main_vcs.specs.Linking.{main_of};

@@ -8,14 +8,12 @@ ghost use Rattle.source_meaning.specs.declared.linked.LStmt.{LStmt};
 ghost use Rattle.source_meaning.specs.declared.linked.LStmt.TheOpen.{LStmt-F};
 ghost use Rattle.source_meaning.specs.declared.linked.LStmt.TheViews.{roll-LStmt};
 ghost use Rattle.source_meaning.specs.Formed.{IsFormed};
-ghost use Rattle.main_form.specs.Spelling.{IsForm};
+ghost use Rattle.main_form.specs.Formed.{IsForm};
 ghost use Rattle.main_vcs.specs.Linking as spec;
 ghost use Rattle.main_vcs.specs.Soundness.{IsLinkOf};
-ghost use Rattle.main_vcs.specs.Walk.{number_of};
 
-use crate::numbers::number_of;
-use crate::variables::{variables, zeros};
-use main_form::{Comparison, Expr, Guard, Literal, Module, Stmt};
+use crate::variables::zeros;
+use main_form::{Comparison, Expr, Guard, Module, Stmt};
 use math_terms::{Name, NoMemory, both};
 use source_meaning::{BinOp, Instance, LExpr, LStmt, Linked, Proc, Scalar, Spot, TypeForm};
 use sqlite_items::{Boxed, Items};
@@ -29,23 +27,15 @@ fn op(alloc: Global, operator: BinOp, left: LExpr, right: LExpr) -> Result<LExpr
     Ok(LExpr::Op(operator, left, right))
 }
 
-fn constant(l: Literal) -> Result<LExpr, NoMemory>
-    ensures { IfOk result (λ e. e ≡ roll-LExpr (LExpr-F.Const (Scalar.Int (number_of l)))) }
-{
-    let n = number_of(l)?;
-    Ok(LExpr::Const(Scalar::Int(n)))
-}
-
 // An expression.
 #[cycle(expression)]
 fn linked_expr(alloc: Global, e: &Expr) -> Result<LExpr, NoMemory>
     ensures { IfOk result (λ l. l ≡ spec.linked_expr e.now) }
 {
     match e {
-        Expr::Number(l) => constant(*l),
+        Expr::Number(n) => Ok(LExpr::Const(Scalar::Int(*n))),
         Expr::Variable(k) => Ok(LExpr::Get(Spot::Local(*k))),
         Expr::Remaining => Ok(LExpr::Remaining),
-        Expr::Brackets(a) => linked_expr(alloc, a.get()),
         Expr::Minus(_, a) => {
             let a = linked_expr(alloc, a.get())?;
             op(alloc, BinOp::Sub, LExpr::Const(Scalar::Int(0)), a)
@@ -96,7 +86,6 @@ fn linked_guard(alloc: Global, g: &Guard) -> Result<LExpr, NoMemory>
 {
     match g {
         Guard::Compare(c, a, b) => compared(alloc, *c, a, b),
-        Guard::Brackets(g) => linked_guard(alloc, g.get()),
         Guard::Not(g) => {
             let g = linked_guard(alloc, g.get())?;
             negated(alloc, g)
@@ -122,20 +111,12 @@ fn linked_stmt(alloc: Global, x: &Stmt) -> Result<LStmt, NoMemory>
         Stmt::Write(e) => Ok(LStmt::LWrite(linked_expr(alloc, e)?)),
         Stmt::Assign(k, e) => Ok(LStmt::LSet(Spot::Local(*k), linked_expr(alloc, e)?)),
         Stmt::If(g, a, b) => {
-            let g = linked_guard(alloc, g)?;
-            match b {
-                None => {
-                    let a = linked_stmts(alloc, a.as_slice())?;
-                    Ok(LStmt::LIf(g, a, Items::new(alloc)))
-                }
-                Some(b) => {
-                    let (a, b) = both(
-                        linked_stmts(alloc, a.as_slice()),
-                        linked_stmts(alloc, b.as_slice()),
-                    )?;
-                    Ok(LStmt::LIf(g, a, b))
-                }
-            }
+            let blocks = both(
+                linked_stmts(alloc, a.as_slice()),
+                linked_stmts(alloc, b.as_slice()),
+            );
+            let (g, blocks) = both(linked_guard(alloc, g), blocks)?;
+            Ok(LStmt::LIf(g, blocks.0, blocks.1))
         }
     }
 }
@@ -155,7 +136,6 @@ fn linked_stmts(alloc: Global, xs: &[Stmt]) -> Result<Items<LStmt>, NoMemory>
 fn main_of(alloc: Global, m: &Module) -> Result<Proc, NoMemory>
     ensures { IfOk result (λ p. p ≡ spec.main_of m.now) }
 {
-    let names = variables(alloc, m)?;
     Ok(Proc {
         instance: 0,
         operation: Name::new(alloc, b"Main")?,
@@ -163,7 +143,7 @@ fn main_of(alloc: Global, m: &Module) -> Result<Proc, NoMemory>
         params: Items::new(alloc),
         streams: Items::from_slice(alloc, &[(0, true), (1, false)])?,
         result: None,
-        locals: zeros(alloc, names.as_slice())?,
+        locals: zeros(alloc, m.variables.as_slice())?,
         body: linked_stmts(alloc, m.body.as_slice())?,
     })
 }

@@ -3,7 +3,6 @@
 ghost use Rattle.std.specs.Prelude.{◌≡◌, ◌++◌, [], IfOk, OnOk, codes, decimal, slice_index_or};
 ghost use Rattle.main_vcs.specs.Walk as walk;
 
-use crate::variables::variables;
 use main_form::Module;
 use math_terms::{Name, NoMemory};
 use std::alloc::Global;
@@ -41,12 +40,10 @@ pub(crate) fn fresh_name(alloc: Global, name: &Name, k: u32) -> Result<Name, NoM
 
 /// The name of a variable by its number.
 pub(crate) fn variable_name(alloc: Global, m: &Module, k: u32) -> Result<Name, NoMemory>
-    ensures { IfOk result (λ n. n ≡ slice_index_or (walk.names_of m.now) k []) }
+    ensures { IfOk result (λ n. n ≡ slice_index_or m.now.variables k []) }
 {
-    let names = variables(alloc, m)?;
-    if (k as usize) < names.len() {
-        names.as_slice()[k as usize].copy(alloc)
-    } else {
-        Name::new(alloc, b"")
+    match m.variables.as_slice().get(k as usize) {
+        Some(name) => name.copy(alloc),
+        None => Name::new(alloc, b""),
     }
 }

@@ -8,7 +8,7 @@ ghost use Rattle.main_prover.specs.working.Points.{assigned, counted, known_more
 use crate::names::{fresh_name, variable_name};
 use crate::numbers::next;
 use crate::terms::{cat, equal, integer, lower_bound, single, stream, upper_bound};
-use crate::variables::{variables, zeros};
+use crate::variables::zeros;
 use main_form::Module;
 use math_terms::{Desc, Name, NoMemory, Term, both, copy_terms};
 use sqlite_items::Items;
@@ -196,9 +196,8 @@ impl Path {
     pub(crate) fn begin(alloc: Global, m: &Module) -> Result<Path, NoMemory>
         ensures { IfOk result (λ p. point_of p ≡ walk.begins m.now) }
     {
-        let names = variables(alloc, m)?;
-        let fresh = zeros(alloc, names.as_slice())?;
-        let values = Values::begin(alloc, names.as_slice())?;
+        let fresh = zeros(alloc, m.variables.as_slice())?;
+        let values = Values::begin(alloc, m.variables.as_slice())?;
         let known = Known::begin(alloc, m)?;
         Ok(Path {
             values,
@@ -291,7 +290,7 @@ impl Path {
 
     // The variable of a number that is read.
     fn number_var(&self, alloc: Global, m: &Module, k: u32) -> Result<(Name, Desc), NoMemory>
-        ensures { IfOk result (λ v. v ≡ (walk.fresh_name (slice_index_or (walk.names_of m.now) k []) (slice_index_or self.now.counts.fresh k 0), spec.integer)) }
+        ensures { IfOk result (λ v. v ≡ (walk.fresh_name (slice_index_or m.now.variables k []) (slice_index_or self.now.counts.fresh k 0), spec.integer)) }
     {
         let first = variable_name(alloc, m, k)?;
         let name = fresh_name(alloc, &first, self.counts.of(k))?;
@@ -311,7 +310,7 @@ impl Path {
 
     // Adds both.
     fn add_vars(&mut self, alloc: Global, m: &Module, k: u32) -> Result<(), NoMemory>
-        ensures { OnOk result (point_of self.new ≡ known_more (walk.names_of m.now) m.now.input k (point_of self.old)) }
+        ensures { OnOk result (point_of self.new ≡ known_more m.now.variables m.now.input k (point_of self.old)) }
     {
         let (number, rest) = both(self.number_var(alloc, m, k), self.rest_var(alloc, m))?;
         push_two(&mut self.known.vars, number, rest)
@@ -346,7 +345,7 @@ impl Path {
 
     /// Reads a number into a variable.
     pub(crate) fn read(&mut self, alloc: Global, m: &Module, k: u32) -> Result<(), NoMemory>
-        ensures { OnOk result (point_of self.new ≡ walk.after_read (walk.names_of m.now) m.now.input k (point_of self.old)) }
+        ensures { OnOk result (point_of self.new ≡ walk.after_read m.now.variables m.now.input k (point_of self.old)) }
     {
         let number = self.next_var()?;
         self.add_vars(alloc, m, k)?;

@@ -4,8 +4,7 @@ ghost use Rattle.std.specs.Prelude.{◌≡◌, [], IfOk, pos};
 ghost use Rattle.main_vcs.specs.Terms as spec;
 ghost use Rattle.main_vcs.specs.Walk as walk;
 
-use crate::numbers::number_of;
-use main_form::{Claim, Comparison, Literal};
+use main_form::{Claim, Comparison};
 use math_terms::{Boxed, Desc, NoMemory, Shape, Term, boxed};
 use std::alloc::Global;
 
@@ -147,40 +146,38 @@ pub(crate) fn compared(alloc: Global, c: Comparison, a: Term, b: Term) -> Result
     }
 }
 
-/// The number of a literal.
-pub(crate) fn literal(l: Literal) -> Result<Term, NoMemory>
-    ensures { IfOk result (λ t. t ≡ spec.num (walk.number_of l)) }
+/// A number.
+pub(crate) fn number(n: i64) -> Term
+    ensures { result ≡ spec.num n }
 {
-    let n = number_of(l)?;
-    Ok(Term::Num(n))
+    Term::Num(n)
 }
 
-fn single_literal(alloc: Global, l: Literal) -> Result<Term, NoMemory>
-    ensures { IfOk result (λ t. t ≡ spec.single (spec.num (walk.number_of l))) }
+fn single_number(alloc: Global, n: i64) -> Result<Term, NoMemory>
+    ensures { IfOk result (λ t. t ≡ spec.single (spec.num n)) }
 {
-    let n = literal(l)?;
-    single(alloc, n)
+    single(alloc, Term::Num(n))
 }
 
-// A string with literals after it.
-fn extended(alloc: Global, front: Term, ls: &[Literal]) -> Result<Term, NoMemory>
-    ensures { IfOk result (λ t. t ≡ walk.extended front ls.now) }
+// A string with numbers after it.
+fn extended(alloc: Global, front: Term, ns: &[i64]) -> Result<Term, NoMemory>
+    ensures { IfOk result (λ t. t ≡ walk.extended front ns.now) }
 {
     let mut all = front;
-    for l in ls {
-        let last = single_literal(alloc, *l)?;
+    for n in ns {
+        let last = single_number(alloc, *n)?;
         all = cat(alloc, all, last)?;
     }
     Ok(all)
 }
 
-fn chain(alloc: Global, ls: &[Literal]) -> Result<Term, NoMemory>
-    ensures { IfOk result (λ t. t ≡ walk.chain ls.now) }
+fn chain(alloc: Global, ns: &[i64]) -> Result<Term, NoMemory>
+    ensures { IfOk result (λ t. t ≡ walk.chain ns.now) }
 {
-    match ls.split_first() {
+    match ns.split_first() {
         None => Ok(Term::Empty),
         Some((first, rest)) => {
-            let front = single_literal(alloc, *first)?;
+            let front = single_number(alloc, *first)?;
             extended(alloc, front, rest)
         }
     }
@@ -192,8 +189,8 @@ pub(crate) fn claimed(alloc: Global, c: &Claim, output: &Term) -> Result<Term, N
 {
     match c {
         Claim::True => Ok(Term::Truth(true)),
-        Claim::Chain(ls) => {
-            let chain = chain(alloc, ls.as_slice())?;
+        Claim::Chain(ns) => {
+            let chain = chain(alloc, ns.as_slice())?;
             let output = output.copy(alloc)?;
             equal(alloc, output, chain)
         }

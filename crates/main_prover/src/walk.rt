@@ -7,14 +7,13 @@ ghost use Rattle.main_vcs.specs.Walk as walk;
 ghost use Rattle.main_prover.specs.working.Judging.{Goes, Judges, Stops};
 ghost use Rattle.main_prover.specs.working.Making.{condition_at, expr_made, guard_made, left_over};
 ghost use Rattle.main_prover.specs.working.Points.{assigned, point_of, written};
-ghost use Rattle.main_prover.specs.working.Remaining.{or_no_stmts, readable};
+ghost use Rattle.main_prover.specs.working.Remaining.{readable};
 
 use crate::judge::{Judge, Stop};
 use crate::path::Path;
 use crate::terms::{below, claimed, len, negated};
 use main_form::{Expr, Guard, Module, Stmt};
 use math_terms::{NoMemory, Term};
-use sqlite_items::Items;
 use std::alloc::Global;
 use vc_sequents::VcKind;
 
@@ -29,7 +28,7 @@ impl Judge {
 
     // A read.
     fn read(&mut self, m: &Module, at: u32, k: u32, path: &mut Path) -> Result<(), Stop>
-        ensures { let p = point_of path.old in let cs = condition_at kinds.Requires at p (readable p) ∷ [] in MatchResult result (λ _. (point_of path.new ≡ walk.after_read (walk.names_of m.now) m.now.input k p) × Goes m.now cs self.old self.new) (Stops m.now cs self.old) }
+        ensures { let p = point_of path.old in let cs = condition_at kinds.Requires at p (readable p) ∷ [] in MatchResult result (λ _. (point_of path.new ≡ walk.after_read m.now.variables m.now.input k p) × Goes m.now cs self.old self.new) (Stops m.now cs self.old) }
     {
         let goal = readable(self.alloc, path)?;
         self.judge(m, VcKind::Requires, at, path, goal)?;
@@ -92,7 +91,7 @@ impl Judge {
         todo: Vec<&'s [Stmt]>,
         mut path: Path,
     ) -> Result<(), Stop>
-        ensures { Judges m.now (walk.conditions (walk.stmt (walk.names_of m.now) m.now.input x.now (left_over m.now (map (λ xs. xs.now) todo.entry.items)) (point_of path))) self.old result self.new }
+        ensures { Judges m.now (walk.conditions (walk.stmt m.now.variables m.now.input x.now (left_over m.now (map (λ xs. xs.now) todo.entry.items)) (point_of path))) self.old result self.new }
     {
         match x {
             Stmt::Read(at, k) => {
@@ -108,7 +107,7 @@ impl Judge {
                 self.go_on(m, done, todo, path)
             }
             Stmt::If(g, a, b) => match self.fork(m, g, &mut path) {
-                Ok(other) => self.two_paths(m, a.as_slice(), or_empty(b), todo, path, other),
+                Ok(other) => self.two_paths(m, a.as_slice(), b.as_slice(), todo, path, other),
                 Err(s) => Err(s),
             },
         }
@@ -199,16 +198,6 @@ fn with_list<'s>(
     }
     put_list(&mut out, last)?;
     Ok(out)
-}
-
-// The statements after `else`.
-fn or_empty(b: &Option<Items<Stmt>>) -> &[Stmt]
-    ensures { result.now ≡ or_no_stmts b.now }
-{
-    match b {
-        None => &[],
-        Some(b) => b.as_slice(),
-    }
 }
 
 // That there is a number to be read.

@@ -24,7 +24,7 @@ use Rattle.main_form.specs.declared.module.Expr.TheOpen.{Expr-F}
 use Rattle.main_form.specs.declared.module.Expr.TheViews.{roll-Expr}
 use Rattle.main_form.specs.declared.module.Expr.TheFolds.{map-Expr, fold-roll-Expr, ind-Expr}
 use Rattle.main_vcs.specs.Terms.{num, len, add, sub, bounds, in_bounds}
-use Rattle.main_vcs.specs.Walk.{Path, Items, WithTerm, conditions, number_of, in_range, with_hyps, expr_step, expr}
+use Rattle.main_vcs.specs.Walk.{Path, Items, WithTerm, conditions, in_range, with_hyps, expr_step, expr}
 use Rattle.main_vcs.specs.Linking.{two, linked_expr_step, linked_expr}
 use Rattle.main_vcs.specs.Soundness.{IsValidCondition}
 use Rattle.main_vcs.proofs.TermValues.{num_value, add_value, sub_value, len_value, bounds_value}
@@ -153,10 +153,9 @@ module _ (I : Interpretation) where
       subst L (sym (fold-roll-Expr LExpr linked_expr_step x)) (h go n w p s d (subst AreValid items valid))
 
   layer : (y : Expr-F ((e : Expr) × Means e)) → LayerMeans (map-Expr ((e : Expr) × Means e) Expr (λ e. e.0) y)
-  layer (Expr-F.Number l) go n w p s d valid = number_gives n w p s (number_of l) go d valid
+  layer (Expr-F.Number k) go n w p s d valid = number_gives n w p s k go d valid
   layer (Expr-F.Variable k) go n w p s d valid = variable_gives n w p s k go d valid
   layer Expr-F.Remaining go n w p s d valid = remaining_gives n w p s go d valid
-  layer (Expr-F.Brackets a) go n w p s d valid = a.1 go n w p s d valid
   layer (Expr-F.Minus at a) go n w p s d valid =
       let g = a.1 (λ t q. in_range at (sub (num (pos 0)) t) go q) n w p s d valid in
       sub_gives n w g.point s at (roll-LExpr (LExpr-F.Const (Scalar.Int (pos 0)))) (linked_expr a.0) (num (pos 0)) g.term (pos 0) g.result go

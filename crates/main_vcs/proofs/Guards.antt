@@ -98,7 +98,6 @@ module _ (I : Interpretation) where
 
   layer : (y : Guard-F ((g : Guard) × Decides g)) → LayerDecides (map-Guard ((g : Guard) × Decides g) Guard (λ e. e.0) y)
   layer (Guard-F.Compare c a b) go n w p s d valid = compare_gives c a b go n w p s d valid
-  layer (Guard-F.Brackets a) go n w p s d valid = a.1 go n w p s d valid
   layer (Guard-F.Not a) go n w p s d valid = not_gives (linked_guard a.0) go n w s (a.1 (λ t q. go (negated t) q) n w p s d valid)
   layer (Guard-F.And a b) go n w p s d valid =
       let g = a.1 (λ t q. guard b.0 (λ u r. go (both t u) r) q) n w p s d valid in

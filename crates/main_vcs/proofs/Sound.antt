@@ -14,12 +14,11 @@ use Rattle.source_meaning.specs.declared.linked.TypeForm.TheVariants as form
 use Rattle.source_meaning.specs.declared.linked.Linked.{Linked}
 use Rattle.source_meaning.specs.Meaning.{Run, Going, Over, next, initial_of, run_all}
 use Rattle.source_meaning.specs.Meaning.{begins as store_begins}
-use Rattle.main_form.specs.declared.module.Literal.{Literal}
 use Rattle.main_form.specs.declared.module.Claim.{Claim}
 use Rattle.main_form.specs.declared.module.Claim.TheVariants as claim
 use Rattle.main_form.specs.declared.module.Module.{Module}
 use Rattle.main_vcs.specs.Terms.{num, var, min_int, max_int, empty_string, single, cat, equal, at_most, integer, facts}
-use Rattle.main_vcs.specs.Walk.{number_of, extended, chain, claimed, at_end, names_of, begins}
+use Rattle.main_vcs.specs.Walk.{extended, chain, claimed, at_end, begins}
 use Rattle.main_vcs.specs.Linking.{main_of}
 use Rattle.main_vcs.specs.Soundness.{IsInput, numbers, IsLinkOf, ConditionsAreSound}
 use Rattle.main_vcs.proofs.TermValues.{num_value, var_value, min_value, max_value, true_value, empty_value, single_value, cat_value, equal_value, at_most_value}
@@ -30,28 +29,26 @@ use Rattle.main_vcs.proofs.Statements.{IsRight, Leads, body_does}
 -- whether an output is what a claim says
 allowed : Claim → List ℤ → Bool
 allowed claim.True ns = true
-allowed (claim.Chain ls) ns = same (numbers ns) (numbers (map number_of ls))
+allowed (claim.Chain ls) ns = same (numbers ns) (numbers ls)
 
 module _ (I : Interpretation) (u : Valuation) where
-  extended_value : (ls : List Literal) (t : Term) (ns : List ℤ) → value I u t ≡ numbers ns → value I u (extended t ls) ≡ numbers (ns ++ map number_of ls)
+  extended_value : (ls : List ℤ) (t : Term) (ns : List ℤ) → value I u t ≡ numbers ns → value I u (extended t ls) ≡ numbers (ns ++ ls)
   extended_value [] t ns e = e ∙ ap numbers (sym (append-nil ns))
-  extended_value (l ∷ ls) t ns e =
-      let n = number_of l in
+  extended_value (n ∷ ls) t ns e =
       let longer = cat_value I u t (single (num n)) ns (n ∷ []) e (single_value I u (num n) n (num_value I u n)) in
       extended_value ls (cat t (single (num n))) (ns ++ n ∷ []) longer
-      ∙ ap numbers (append_assoc ns (n ∷ []) (map number_of ls))
+      ∙ ap numbers (append_assoc ns (n ∷ []) ls)
 
-  chain_value : (ls : List Literal) → value I u (chain ls) ≡ numbers (map number_of ls)
+  chain_value : (ls : List ℤ) → value I u (chain ls) ≡ numbers ls
   chain_value [] = empty_value I u
-  chain_value (l ∷ ls) =
-      let n = number_of l in
+  chain_value (n ∷ ls) =
       extended_value ls (single (num n)) (n ∷ []) (single_value I u (num n) n (num_value I u n))
 
   -- a claim of a term is about the term's value alone
   claimed_value : (c : Claim) (t : Term) (ns : List ℤ) → value I u t ≡ numbers ns → holds I u (claimed c t) ≡ allowed c ns
   unfolding allowed
   claimed_value claim.True t ns e = ap truth (true_value I u)
-  claimed_value (claim.Chain ls) t ns e = ap truth (equal_value I u t (chain ls) (numbers ns) (numbers (map number_of ls)) e (chain_value ls))
+  claimed_value (claim.Chain ls) t ns e = ap truth (equal_value I u t (chain ls) (numbers ns) (numbers ls) e (chain_value ls))
 
 -- nothing comes after the end
 next_going : (r : Run) → next r Going ≡ r
@@ -96,10 +93,10 @@ module _ (I : Interpretation) where
   starts : (m : Module) (l : Linked) (input : List ℤ) (fuel : ℕ) → IsLinkOf m l → IsInput input → Describes I 2 (at_start input) (begins m) (store_begins l (main_of m) input fuel)
   starts m l input fuel link ok = record {
     count = refl;
-    locals = map (λ n. pos 0) (names_of m);
-    are_locals = zero_locals l.types (names_of m) link.types;
+    locals = map (λ n. pos 0) m.variables;
+    are_locals = zero_locals l.types m.variables link.types;
     facts = λ u a. record {
-      terms = zero_terms u (names_of m);
+      terms = zero_terms u m.variables;
       input_is = var_value I u 1 ∙ input_there input u a;
       output_is = var_value I u 2 ∙ output_there input u a;
       hyps = start_hyps input u a;
@@ -113,5 +110,5 @@ pub conditions_sound : ConditionsAreSound
 conditions_sound m l link valid input ok fuel =
     let I : Interpretation = λ k. integer in
     let s = store_begins l (main_of m) input fuel in
-    let right = body_does I (names_of m) m.input m.claim m.body (at_end m.claim m.end_at) Going (end_right I (names_of m) m.input m.claim m.end_at) 2 (at_start I input) (begins m) s (starts I m l input fuel link ok) valid in
+    let right = body_does I m.variables m.input m.claim m.body (at_end m.claim m.end_at) Going (end_right I m.variables m.input m.claim m.end_at) 2 (at_start I input) (begins m) s (starts I m l input fuel link ok) valid in
     subst (IsRight m.claim) (next_going (run_all (main_of m).body s)) right

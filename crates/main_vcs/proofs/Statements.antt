@@ -138,11 +138,7 @@ module _ (I : Interpretation) (names : List (List ℕ)) (input : List ℕ) (c : 
       once_paid (LStmt-F.LWrite (linked_expr e)) (stmt_step names input (Stmt-F.Write e) go) cont (write_right e go cont lead)
   layer (Stmt-F.Assign k e) go cont lead =
       once_paid (LStmt-F.LSet (Local k) (linked_expr e)) (stmt_step names input (Stmt-F.Assign k e) go) cont (assign_right k e go cont lead)
-  layer (Stmt-F.If g a None) go cont lead =
-      let path = in_order (map (stmt names input) (bare a)) go in
-      once_paid (LStmt-F.LIf (linked_guard g) (map linked_stmt (bare a)) []) (λ p. guard g (λ t q. path (with_hyps (t ∷ []) q) ++ go (with_hyps (negated t ∷ []) q)) p) cont
-      (if_right g path go (runs_in_order (map run_one (map linked_stmt (bare a)))) (runs_in_order []) cont (all_do a go cont lead) lead)
-  layer (Stmt-F.If g a (Some b)) go cont lead =
+  layer (Stmt-F.If g a b) go cont lead =
       let path = in_order (map (stmt names input) (bare a)) go in
       let other = in_order (map (stmt names input) (bare b)) go in
       once_paid (LStmt-F.LIf (linked_guard g) (map linked_stmt (bare a)) (map linked_stmt (bare b))) (λ p. guard g (λ t q. path (with_hyps (t ∷ []) q) ++ other (with_hyps (negated t ∷ []) q)) p) cont

@@ -23,16 +23,14 @@ use Rattle.main_form.specs.declared.module.Stmt.{Stmt}
 use Rattle.main_form.specs.declared.module.Stmt.TheOpen.{Stmt-F}
 use Rattle.main_form.specs.declared.module.Stmt.TheFolds.{fold-Stmt}
 use Rattle.main_form.specs.declared.module.Module.{Module}
-use Rattle.main_vcs.specs.Walk.{names_of, number_of}
 
 abbrev pub two : BinOp → LExpr → LExpr → LExpr
 two o a b = roll-LExpr (LExpr-F.Op o a b)
 
 abbrev pub linked_expr_step : Expr-F LExpr → LExpr
-linked_expr_step (Expr-F.Number l) = roll-LExpr (LExpr-F.Const (Scalar.Int (number_of l)))
+linked_expr_step (Expr-F.Number n) = roll-LExpr (LExpr-F.Const (Scalar.Int n))
 linked_expr_step (Expr-F.Variable k) = roll-LExpr (LExpr-F.Get (Local k))
 linked_expr_step Expr-F.Remaining = roll-LExpr LExpr-F.Remaining
-linked_expr_step (Expr-F.Brackets a) = a
 linked_expr_step (Expr-F.Minus at a) = two op.Sub (roll-LExpr (LExpr-F.Const (Scalar.Int (pos 0)))) a
 linked_expr_step (Expr-F.Add at a b) = two op.Add a b
 linked_expr_step (Expr-F.Sub at a b) = two op.Sub a b
@@ -50,7 +48,6 @@ operator comparison.GreaterEqual = op.GreaterEq
 
 abbrev pub linked_guard_step : Guard-F LExpr → LExpr
 linked_guard_step (Guard-F.Compare c a b) = two (operator c) (linked_expr a) (linked_expr b)
-linked_guard_step (Guard-F.Brackets g) = g
 linked_guard_step (Guard-F.Not g) = roll-LExpr (LExpr-F.Not g)
 linked_guard_step (Guard-F.And g h) = two op.And g h
 linked_guard_step (Guard-F.Or g h) = two op.Or g h
@@ -58,15 +55,11 @@ linked_guard_step (Guard-F.Or g h) = two op.Or g h
 abbrev pub linked_guard : Guard → LExpr
 linked_guard g = fold-Guard LExpr linked_guard_step g
 
-abbrev pub or_none : Option (List LStmt) → List LStmt
-or_none None = []
-or_none (Some xs) = xs
-
 abbrev pub linked_stmt_step : Stmt-F LStmt → LStmt
 linked_stmt_step (Stmt-F.Read at k) = roll-LStmt (LStmt-F.LRead (Local k))
 linked_stmt_step (Stmt-F.Write e) = roll-LStmt (LStmt-F.LWrite (linked_expr e))
 linked_stmt_step (Stmt-F.Assign k e) = roll-LStmt (LStmt-F.LSet (Local k) (linked_expr e))
-linked_stmt_step (Stmt-F.If g a b) = roll-LStmt (LStmt-F.LIf (linked_guard g) a (or_none b))
+linked_stmt_step (Stmt-F.If g a b) = roll-LStmt (LStmt-F.LIf (linked_guard g) a b)
 
 abbrev pub linked_stmt : Stmt → LStmt
 linked_stmt x = fold-Stmt LStmt linked_stmt_step x
@@ -80,6 +73,6 @@ main_of m = record {
   params = [];
   streams = (0, true) ∷ (1, false) ∷ [];
   result = None;
-  locals = map (λ n. 0) (names_of m);
+  locals = map (λ n. 0) m.variables;
   body = map linked_stmt m.body;
 }

@@ -4,7 +4,6 @@ use Rattle.math_terms.specs.declared.term.Term.{Term}
 use Rattle.math_terms.specs.declared.descriptor.Desc.{Desc}
 use Rattle.vc_sequents.specs.declared.sequent.VcKind.{VcKind}
 use Rattle.vc_sequents.specs.declared.sequent.VcKind.TheVariants as kind
-use Rattle.main_form.specs.declared.module.Literal.{Literal}
 use Rattle.main_form.specs.declared.module.Expr.{Expr}
 use Rattle.main_form.specs.declared.module.Expr.TheOpen.{Expr-F}
 use Rattle.main_form.specs.declared.module.Expr.TheFolds.{fold-Expr}
@@ -54,14 +53,6 @@ check k at p goal = Check (record { kind = k; at = at; vars = p.vars; hyps = p.h
 abbrev pub with_hyps : List Term → Path → Path
 with_hyps fs p = record p { hyps = p.hyps ++ fs }
 
--- the number that a literal stands for
-abbrev pub worth : Bool → ℤ → ℤ
-worth false n = n
-worth true n = pos 0 -ℤ n
-
-abbrev pub number_of : Literal → ℤ
-number_of l = worth l.minus l.digits
-
 -- what goes on with a term at a point
 abbrev pub WithTerm : Type 0
 WithTerm = Term → Path → Items
@@ -72,10 +63,9 @@ in_range at t go p = check kind.Range at p (in_bounds t) ∷ go t p
 
 -- The term of an expression, with its conditions from the left. What remains of the input brings its bounds.
 abbrev pub expr_step : Expr-F (WithTerm → Path → Items) → WithTerm → Path → Items
-expr_step (Expr-F.Number l) go p = go (num (number_of l)) p
+expr_step (Expr-F.Number n) go p = go (num n) p
 expr_step (Expr-F.Variable k) go p = go (slice_index_or p.terms k (num (pos 0))) p
 expr_step Expr-F.Remaining go p = go (len p.input) (with_hyps (bounds (len p.input)) p)
-expr_step (Expr-F.Brackets a) go p = a go p
 expr_step (Expr-F.Minus at a) go p = a (λ t q. in_range at (sub (num (pos 0)) t) go q) p
 expr_step (Expr-F.Add at a b) go p = a (λ t q. b (λ u r. in_range at (add t u) go r) q) p
 expr_step (Expr-F.Sub at a b) go p = a (λ t q. b (λ u r. in_range at (sub t u) go r) q) p
@@ -93,7 +83,6 @@ compared comparison.GreaterEqual a b = at_most b a
 
 abbrev pub guard_step : Guard-F (WithTerm → Path → Items) → WithTerm → Path → Items
 guard_step (Guard-F.Compare c a b) go p = expr a (λ t q. expr b (λ u r. go (compared c t u) r) q) p
-guard_step (Guard-F.Brackets g) go p = g go p
 guard_step (Guard-F.Not g) go p = g (λ t q. go (negated t) q) p
 guard_step (Guard-F.And g h) go p = g (λ t q. h (λ u r. go (both t u) r) q) p
 guard_step (Guard-F.Or g h) go p = g (λ t q. h (λ u r. go (either t u) r) q) p
@@ -129,17 +118,13 @@ abbrev pub in_order : List (Onward → Onward) → Onward → Onward
 in_order [] go = go
 in_order (x ∷ xs) go = x (in_order xs go)
 
-abbrev pub or_nothing : Option (List (Onward → Onward)) → Onward → Onward
-or_nothing None go = go
-or_nothing (Some xs) go = in_order xs go
-
 -- A statement, by what goes on after it. An If has two paths, the one with the guard first.
 abbrev pub stmt_step : List (List ℕ) → List ℕ → Stmt-F (Onward → Onward) → Onward → Onward
 stmt_step names input (Stmt-F.Read at k) go p = check kind.Requires at p (below (num (pos 0)) (len p.input)) ∷ go (after_read names input k p)
 stmt_step names input (Stmt-F.Write e) go p = expr e (λ t q. go (record q { output = cat q.output (single t) })) p
 stmt_step names input (Stmt-F.Assign k e) go p = expr e (λ t q. go (record q { terms = slice_set q.terms k t })) p
 stmt_step names input (Stmt-F.If g a b) go p =
-    guard g (λ t q. in_order a go (with_hyps (t ∷ []) q) ++ or_nothing b go (with_hyps (negated t ∷ []) q)) p
+    guard g (λ t q. in_order a go (with_hyps (t ∷ []) q) ++ in_order b go (with_hyps (negated t ∷ []) q)) p
 
 abbrev pub stmt : List (List ℕ) → List ℕ → Stmt → Onward → Onward
 stmt names input x = fold-Stmt (Onward → Onward) (stmt_step names input) x
@@ -148,45 +133,38 @@ abbrev pub stmts : List (List ℕ) → List ℕ → List Stmt → Onward → Onw
 stmts names input xs = in_order (map (stmt names input) xs)
 
 -- a term with the literals after it, one after another
-abbrev pub extended : Term → List Literal → Term
+abbrev pub extended : Term → List ℤ → Term
 extended t [] = t
-extended t (l ∷ ls) = extended (cat t (single (num (number_of l)))) ls
+extended t (n ∷ ns) = extended (cat t (single (num n))) ns
 
-abbrev pub chain : List Literal → Term
+abbrev pub chain : List ℤ → Term
 chain [] = empty_string
-chain (l ∷ ls) = extended (single (num (number_of l))) ls
+chain (n ∷ ns) = extended (single (num n)) ns
 
 -- what Main claims of an output
 abbrev pub claimed : Claim → Term → Term
 claimed claim.True output = true_formula
-claimed (claim.Chain ls) output = equal output (chain ls)
+claimed (claim.Chain ns) output = equal output (chain ns)
 
 -- the end of a path, at Main's last `end`
 abbrev pub at_end : Claim → ℕ → Onward
 at_end c at p = End ∷ check kind.Ensures at p (claimed c p.output) ∷ []
 
-abbrev pub names_of : Module → List (List ℕ)
-names_of m = all m.groups
-  where
-    all : List Rattle.main_form.specs.declared.module.Group.Group → List (List ℕ)
-    all [] = []
-    all (g ∷ gs) = g.names ++ all gs
-
 -- where Main begins: the input is the first variable and the output, which is empty, the second
 abbrev pub begins : Module → Path
 begins m = record {
-  terms = map (λ n. num (pos 0)) (names_of m);
+  terms = map (λ n. num (pos 0)) m.variables;
   input = var 1;
   output = var 2;
   hyps = facts ++ equal (var 2) empty_string ∷ [];
   vars = (m.input, stream) ∷ (m.output, stream) ∷ [];
-  fresh = map (λ n. 0) (names_of m);
+  fresh = map (λ n. 0) m.variables;
   reads = 0;
 }
 
 -- all conditions of a module and the ends of its paths, in order
 abbrev pub items_of : Module → Items
-items_of m = stmts (names_of m) m.input m.body (at_end m.claim m.end_at) (begins m)
+items_of m = stmts m.variables m.input m.body (at_end m.claim m.end_at) (begins m)
 
 abbrev pub conditions : Items → List Condition
 conditions [] = []

@@ -4,7 +4,10 @@ use Rattle.edge_io.specs.Files.{Files}
 use Rattle.stack_machine.specs.Lines.{lines}
 use Rattle.stack_machine.specs.Machine.{State, after}
 use Rattle.main_form.specs.declared.module.Module.{Module}
-use Rattle.main_form.specs.Spelling.{Spells}
+use Rattle.main_form.specs.declared.file.Shape.TheVariants as shape
+use Rattle.main_form.specs.Shape.{BuiltIsFormed, shape_of}
+use Rattle.res_ast.specs.declared.component.Component.{Component}
+use Rattle.module_parser.specs.Spelling.{Spells}
 use Rattle.main_vcs.specs.Events.{EventsAreGood}
 use Rattle.main_vcs.specs.Soundness.{IsInput}
 use Rattle.command_words.specs.Words.{Run, Word, command}
@@ -41,20 +44,21 @@ run_stands bytes m numbers steps s out right input (stage.halted t reached over 
     (t, reached, headline.over is over (right.allowed numbers input steps t reached over), lined)
 run_stands bytes m numbers steps s out right input (stage.spent t reached goes is lined) = (t, reached, headline.goes_on is goes, lined)
 
-module _ (laws : RunLaws) (good : EventsAreGood) (words : List Word) (files : Files) (input : List ℕ) (s : Status) (out : List ℕ) (run : IsRun s) where
-  module_runs : (name : List ℕ) (steps : ℕ) (bytes : List ℕ) (m : Module) → command words ≡ Some (Run name steps) → files name ≡ Some bytes → Spells bytes m → ModuleAnswer m steps input s out → RunsRight words files input s out
-  module_runs name steps bytes m says holds spells (stage.unproved u first is nothing) = absurd (subst IsRun is run)
-  module_runs name steps bytes m says holds spells (stage.too_long accepted long is nothing) = absurd (subst IsRun is run)
-  module_runs name steps bytes m says holds spells (stage.bad_input built e fails is nothing) = absurd (subst IsRun is run)
-  module_runs name steps bytes m says holds spells (stage.ran built numbers reads a) =
-      let rights = right laws m spells.2.0 built.accepted good bytes spells in
+module _ (formed : BuiltIsFormed) (laws : RunLaws) (good : EventsAreGood) (words : List Word) (files : Files) (input : List ℕ) (s : Status) (out : List ℕ) (run : IsRun s) where
+  module_runs : (name : List ℕ) (steps : ℕ) (bytes : List ℕ) (cs : List Component) (m : Module) → command words ≡ Some (Run name steps) → files name ≡ Some bytes → Spells bytes cs → shape_of cs ≡ shape.Module m → ModuleAnswer m steps input s out → RunsRight words files input s out
+  module_runs name steps bytes cs m says holds spells of (stage.unproved u first is nothing) = absurd (subst IsRun is run)
+  module_runs name steps bytes cs m says holds spells of (stage.too_long accepted long is nothing) = absurd (subst IsRun is run)
+  module_runs name steps bytes cs m says holds spells of (stage.bad_input built e fails is nothing) = absurd (subst IsRun is run)
+  module_runs name steps bytes cs m says holds spells of (stage.ran built numbers reads a) =
+      let rights = right laws m (formed cs m of) built.accepted good bytes cs spells of in
       let at = run_stands bytes m numbers steps s out rights (is_input input numbers reads) a in
       record { name = name; steps = steps; bytes = bytes; spelled = m; numbers = numbers; state = at.0; says = says; holds = holds; right = rights; reads = reads; reached = at.1; stands = at.2; written = at.3 }
 
   text_runs : (name : List ℕ) (steps : ℕ) (bytes : List ℕ) → command words ≡ Some (Run name steps) → files name ≡ Some bytes → TextAnswer name bytes steps input s out → RunsRight words files input s out
-  text_runs name steps bytes says holds (stage.no_tokens e refuses is nothing) = absurd (subst IsRun is run)
-  text_runs name steps bytes says holds (stage.not_yet at not is nothing) = absurd (subst IsRun is run)
-  text_runs name steps bytes says holds (stage.spelled m spells a) = module_runs name steps bytes m says holds spells a
+  text_runs name steps bytes says holds (stage.lexical e refuses is nothing) = absurd (subst IsRun is run)
+  text_runs name steps bytes says holds (stage.syntax_error e refused is nothing) = absurd (subst IsRun is run)
+  text_runs name steps bytes says holds (stage.unbuilt cs component at spells not is nothing) = absurd (subst IsRun is run)
+  text_runs name steps bytes says holds (stage.spelled cs m spells of a) = module_runs name steps bytes cs m says holds spells of a
 
   file_runs : (name : List ℕ) (steps : ℕ) (bytes : List ℕ) → command words ≡ Some (Run name steps) → files name ≡ Some bytes → FileAnswer name bytes steps input s out → RunsRight words files input s out
   file_runs name steps bytes says holds (stage.long many is nothing) = absurd (subst IsRun is run)
@@ -66,5 +70,5 @@ module _ (laws : RunLaws) (good : EventsAreGood) (words : List Word) (files : Fi
   words_run (stage.no_file name steps says missing is nothing) = absurd (subst IsRun is run)
   words_run (stage.file name steps bytes says holds a) = file_runs name steps bytes says holds a
 
-pub answers_run_right : RunLaws → EventsAreGood → Headline
-answers_run_right laws good words files input s out a end = words_run laws good words files input s out (is_run s end) a
+pub answers_run_right : BuiltIsFormed → RunLaws → EventsAreGood → Headline
+answers_run_right formed laws good words files input s out a end = words_run formed laws good words files input s out (is_run s end) a

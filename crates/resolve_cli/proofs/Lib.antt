@@ -1,6 +1,5 @@
 pub mod Growing
 pub mod Inputs
-pub mod Counting
 pub mod Ran
 pub mod Right
 pub mod Ended

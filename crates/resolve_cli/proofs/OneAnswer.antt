@@ -10,34 +10,23 @@ use Rattle.res_lexer.specs.Tokens.{AreTokens, Refuses}
 use Rattle.stack_machine.specs.Lines.{lines}
 use Rattle.stack_machine.specs.Machine.{State, after}
 use Rattle.main_form.specs.declared.module.Module.{Module}
-use Rattle.main_form.specs.Spelling.{IsModule, IsNotYet, IsRefusedAt, Spells, kinds_in, place_or}
+use Rattle.main_form.specs.declared.file.Shape.TheVariants as shape
+use Rattle.main_form.specs.Shape.{shape_of}
 use Rattle.main_prover.specs.Proving.{NoneFirst, OneFirst}
-use Rattle.main_reader.specs.Laws.{NoModuleRefused, OneModule, OneRefusal}
+use Rattle.res_ast.specs.declared.component.Component.{Component}
+use Rattle.module_parser.specs.Spelling.{IsRefused, OneRefusal, OneSpelling, SpelledIsNotRefused, Spells}
 use Rattle.command_words.specs.Words.{Command, Other, Run, Word, command, command_of, read_words}
 use Rattle.resolve_cli.specs.declared.status.Status.{Status}
 use Rattle.resolve_cli.specs.declared.status.Status.TheVariants as status
-use Rattle.resolve_cli.specs.Answer.{Answers, FileAnswer, ModuleAnswer, RunAnswer, TextAnswer, bad_input, file, halted, image_of, long, no_file, no_reading, no_tokens, not_built, not_yet, ran, short, spelled, spent, too_long, unproved}
-use Rattle.resolve_cli.specs.Texts.{lex_line, not_yet_line, unproved_line}
+use Rattle.resolve_cli.specs.Answer.{Answers, FileAnswer, ModuleAnswer, RunAnswer, TextAnswer, bad_input, file, halted, image_of, lexical, long, no_file, no_reading, not_built, ran, short, spelled, spent, syntax_error, too_long, unbuilt, unproved}
+use Rattle.resolve_cli.specs.Texts.{lex_line, not_built_line, syntax_line, unproved_line}
 
 -- the laws of texts, as the functions of the crates below state them
 pub record TextLaws : Type 0 where
-  pub one_reading : (bytes : List ℕ) (ts us : List Token) → AreTokens bytes ts → AreTokens bytes us → ts ≡ us
   pub read_or_refused : (bytes : List ℕ) (ts : List Token) (e : LexError) → AreTokens bytes ts → Refuses bytes e → ⊥
-  pub one_module : OneModule
-  pub no_module_refused : NoModuleRefused
-
-module _ (laws : TextLaws) where
-  -- a text spells one module
-  same_module : (bytes : List ℕ) (m n : Module) → Spells bytes m → Spells bytes n → m ≡ n
-  same_module bytes m n (ts, are, is) (us, are', is') =
-      laws.one_module us m n (subst (λ vs. IsModule vs m) (laws.one_reading bytes ts us are are') is) is'
-
-  no_tokens_spelled : (bytes : List ℕ) (m : Module) (e : LexError) → Spells bytes m → Refuses bytes e → ⊥
-  no_tokens_spelled bytes m e (ts, are, is) refuses = laws.read_or_refused bytes ts e are refuses
-
-  not_yet_spelled : (bytes : List ℕ) (m : Module) (at : ℕ) → Spells bytes m → IsNotYet bytes at → ⊥
-  not_yet_spelled bytes m at (ts, are, is) (us, k, are', refused, place) =
-      laws.no_module_refused ts m k is (subst (λ vs. IsRefusedAt (kinds_in vs) k) (sym (laws.one_reading bytes ts us are are')) refused)
+  pub one_spelling : OneSpelling
+  pub spelled_not_refused : SpelledIsNotRefused
+  pub one_syntax : OneRefusal
 
 -- the words say one command
 same_command : (words : List Word) (c d : Command) → command words ≡ Some c → command words ≡ Some d → c ≡ d
@@ -61,11 +50,19 @@ not_there files name bytes e f = let g : None ≡ Some bytes = sym e ∙ f in ab
 same_text : (files : Files) (name a b : List ℕ) → files name ≡ Some a → files name ≡ Some b → a ≡ b
 same_text files name a b e f = let g : Some a ≡ Some b = sym e ∙ f in cc
 
+same_module : (m n : Module) → shape.Module m ≡ shape.Module n → m ≡ n
+same_module m n e = cc
+
+same_line : (n l : List ℕ) (at to : ℕ) → shape.NotBuilt n at ≡ shape.NotBuilt l to → status.Refused (not_built_line n at) ≡ status.Refused (not_built_line l to)
+same_line n l at to e =
+    let names : n ≡ l = cc in
+    let places : at ≡ to = cc in
+    ap (λ x. status.Refused (not_built_line x at)) names ∙ ap (λ x. status.Refused (not_built_line l x)) places
+
 -- the laws that two refusals are one
 pub record RefusalLaws : Type 0 where
   pub texts : TextLaws
   pub one_refusal : (bytes : List ℕ) (e f : LexError) → Refuses bytes e → Refuses bytes f → e ≡ f
-  pub one_place : OneRefusal
   pub one_first : OneFirst
   pub none_first : NoneFirst
 
@@ -126,28 +123,33 @@ module _ (laws : RefusalLaws) where
   module_one m steps input s t o p (ran built numbers reads a) (ran built' ns reads' b) =
       run_one m ns steps s t o p (subst (λ ks. RunAnswer m ks steps s o) (same_ok (reading input) numbers ns reads reads') a) b
 
-  no_form_refused : (bytes : List ℕ) (e : LexError) (at : ℕ) → Refuses bytes e → IsNotYet bytes at → ⊥
-  no_form_refused bytes e at refuses (ts, k, are, refused, place) = laws.texts.read_or_refused bytes ts e are refuses
-
-  one_place_of : (bytes : List ℕ) (at to : ℕ) → IsNotYet bytes at → IsNotYet bytes to → at ≡ to
-  one_place_of bytes at to (ts, k, are, refused, place) (us, j, are', refused', place') =
-      let same = laws.texts.one_reading bytes ts us are are' in
-      let places = laws.one_place (kinds_in us) k j (subst (λ vs. IsRefusedAt (kinds_in vs) k) same refused) refused' in
-      place ∙ ap (λ vs. place_or (length bytes) (slice_get vs k)) same ∙ ap (λ i. place_or (length bytes) (slice_get us i)) places ∙ sym place'
-
   text_one : (name bytes : List ℕ) (steps : ℕ) (input : List ℕ) (s t : Status) (o p : List ℕ) → TextAnswer name bytes steps input s o → TextAnswer name bytes steps input t p → Both s t o p
-  text_one name bytes steps input s t o p (no_tokens e refuses is nothing) (no_tokens f refuses' is' nothing') =
+  text_one name bytes steps input s t o p (lexical e refuses is nothing) (lexical f refuses' is' nothing') =
       both_none s t _ _ o p is is' (ap (λ x. status.Refused (lex_line name x)) (laws.one_refusal bytes e f refuses refuses')) nothing nothing'
-  text_one name bytes steps input s t o p (no_tokens e refuses is nothing) (not_yet at not is' nothing') = absurd (no_form_refused bytes e at refuses not)
-  text_one name bytes steps input s t o p (no_tokens e refuses is nothing) (spelled m spells a) = absurd (no_tokens_spelled laws.texts bytes m e spells refuses)
-  text_one name bytes steps input s t o p (not_yet at not is nothing) (no_tokens e refuses is' nothing') = absurd (no_form_refused bytes e at refuses not)
-  text_one name bytes steps input s t o p (not_yet at not is nothing) (not_yet to not' is' nothing') =
-      both_none s t _ _ o p is is' (ap (λ x. status.Refused (not_yet_line name x)) (one_place_of bytes at to not not')) nothing nothing'
-  text_one name bytes steps input s t o p (not_yet at not is nothing) (spelled m spells a) = absurd (not_yet_spelled laws.texts bytes m at spells not)
-  text_one name bytes steps input s t o p (spelled m spells a) (no_tokens e refuses is' nothing') = absurd (no_tokens_spelled laws.texts bytes m e spells refuses)
-  text_one name bytes steps input s t o p (spelled m spells a) (not_yet at not is' nothing') = absurd (not_yet_spelled laws.texts bytes m at spells not)
-  text_one name bytes steps input s t o p (spelled m spells a) (spelled n spells' b) =
-      module_one n steps input s t o p (subst (λ k. ModuleAnswer k steps input s o) (same_module laws.texts bytes m n spells spells') a) b
+  text_one name bytes steps input s t o p (lexical e refuses is nothing) (syntax_error f refused is' nothing') = absurd (laws.texts.read_or_refused bytes refused.tokens e refused.are refuses)
+  text_one name bytes steps input s t o p (lexical e refuses is nothing) (unbuilt cs n at spells not is' nothing') = absurd (laws.texts.read_or_refused bytes spells.tokens e spells.are refuses)
+  text_one name bytes steps input s t o p (lexical e refuses is nothing) (spelled cs m spells of a) = absurd (laws.texts.read_or_refused bytes spells.tokens e spells.are refuses)
+  text_one name bytes steps input s t o p (syntax_error f refused is nothing) (lexical e refuses is' nothing') = absurd (laws.texts.read_or_refused bytes refused.tokens e refused.are refuses)
+  text_one name bytes steps input s t o p (syntax_error e refused is nothing) (syntax_error f refused' is' nothing') =
+      both_none s t _ _ o p is is' (ap (λ x. status.Refused (syntax_line name x)) (laws.texts.one_syntax bytes e f refused refused')) nothing nothing'
+  text_one name bytes steps input s t o p (syntax_error e refused is nothing) (unbuilt cs n at spells not is' nothing') = absurd (laws.texts.spelled_not_refused bytes cs e spells refused)
+  text_one name bytes steps input s t o p (syntax_error e refused is nothing) (spelled cs m spells of a) = absurd (laws.texts.spelled_not_refused bytes cs e spells refused)
+  text_one name bytes steps input s t o p (unbuilt cs n at spells not is nothing) (lexical e refuses is' nothing') = absurd (laws.texts.read_or_refused bytes spells.tokens e spells.are refuses)
+  text_one name bytes steps input s t o p (unbuilt cs n at spells not is nothing) (syntax_error e refused is' nothing') = absurd (laws.texts.spelled_not_refused bytes cs e spells refused)
+  text_one name bytes steps input s t o p (unbuilt cs n at spells not is nothing) (unbuilt ds l to spells' not' is' nothing') =
+      let same : shape.NotBuilt n at ≡ shape.NotBuilt l to = sym not ∙ ap shape_of (laws.texts.one_spelling bytes cs ds spells spells') ∙ not' in
+      both_none s t _ _ o p is is' (same_line n l at to same) nothing nothing'
+  text_one name bytes steps input s t o p (unbuilt cs n at spells not is nothing) (spelled ds m spells' of a) =
+      let same : shape.NotBuilt n at ≡ shape.Module m = sym not ∙ ap shape_of (laws.texts.one_spelling bytes cs ds spells spells') ∙ of in
+      absurd (cc)
+  text_one name bytes steps input s t o p (spelled cs m spells of a) (lexical e refuses is' nothing') = absurd (laws.texts.read_or_refused bytes spells.tokens e spells.are refuses)
+  text_one name bytes steps input s t o p (spelled cs m spells of a) (syntax_error e refused is' nothing') = absurd (laws.texts.spelled_not_refused bytes cs e spells refused)
+  text_one name bytes steps input s t o p (spelled cs m spells of a) (unbuilt ds n at spells' not is' nothing') =
+      let same : shape.NotBuilt n at ≡ shape.Module m = sym not ∙ ap shape_of (laws.texts.one_spelling bytes ds cs spells' spells) ∙ of in
+      absurd (cc)
+  text_one name bytes steps input s t o p (spelled cs m spells of a) (spelled ds n spells' of' b) =
+      let same : shape.Module m ≡ shape.Module n = sym of ∙ ap shape_of (laws.texts.one_spelling bytes cs ds spells spells') ∙ of' in
+      module_one n steps input s t o p (subst (λ k. ModuleAnswer k steps input s o) (same_module m n same) a) b
 
   file_one : (name bytes : List ℕ) (steps : ℕ) (input : List ℕ) (s t : Status) (o p : List ℕ) → FileAnswer name bytes steps input s o → FileAnswer name bytes steps input t p → Both s t o p
   file_one name bytes steps input s t o p (long many is nothing) (long many' is' nothing') = both s t _ o p [] is is' nothing nothing'

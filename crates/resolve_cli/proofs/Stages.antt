@@ -7,9 +7,6 @@ use Rattle.math_terms.specs.declared.name.NoMemory.{NoMemory}
 use Rattle.edge_io.specs.Files.{Files, SameFiles, most_bytes}
 use Rattle.edge_io.specs.Held.{Grew}
 use Rattle.edge_io.specs.Numbers.{HadLeft}
-use Rattle.res_lexer.specs.declared.token.LexError.{LexError}
-use Rattle.res_lexer.specs.declared.token.LexError.TheVariants as lex
-use Rattle.res_lexer.specs.Tokens.{Refuses, RefusesOrNoMemory}
 use Rattle.command_words.specs.Words.{Run, Word, command}
 use Rattle.resolve_cli.specs.declared.status.Status.{Status}
 use Rattle.resolve_cli.specs.declared.status.Status.TheVariants as status
@@ -49,13 +46,6 @@ named_answered f A left held (Err e) s text is named a grew = nothing_known A le
 
 pub refused_answered : (A : List ℕ → Status → List ℕ → Type 0) (left held : Option (List ℕ)) (line : Result (List ℕ) NoMemory) (s : Status) (text : List ℕ) → MatchResult line (λ l. s ≡ status.Refused l) (λ _. s ≡ status.NoMemory) → IfOk line (λ l. l ≡ text) → ((input : List ℕ) → A input (status.Refused text) []) → Grew held held [] → SomeAnswer A left s held held
 refused_answered = named_answered (λ l. status.Refused l)
-
-pub refuses_lex : (bytes : List ℕ) (e : LexError) → (e ≡ lex.NoMemory → ⊥) → RefusesOrNoMemory bytes e → Refuses bytes e
-refuses_lex bytes (lex.BadByte at) not h = h
-refuses_lex bytes (lex.OpenComment at) not h = h
-refuses_lex bytes (lex.LongName at) not h = h
-refuses_lex bytes (lex.BigLiteral at) not h = h
-refuses_lex bytes lex.NoMemory not h = absurd (not refl)
 
 -- files that have this one under every name, where the shelf does not tell
 abbrev files_seen : Bool → Files → Option (List ℕ) → Files

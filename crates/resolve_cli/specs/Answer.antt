@@ -6,6 +6,9 @@ use Rattle.edge_io.specs.Files.{Files}
 use Rattle.edge_io.specs.Numbers.{reading}
 use Rattle.res_lexer.specs.declared.token.LexError.{LexError}
 use Rattle.res_lexer.specs.Tokens.{Refuses}
+use Rattle.res_ast.specs.declared.component.Component.{Component}
+use Rattle.expr_parser.specs.declared.syntax.SyntaxError.{SyntaxError}
+use Rattle.module_parser.specs.Spelling.{IsRefused, Spells}
 use Rattle.source_meaning.specs.declared.linked.Linked.{Linked}
 use Rattle.source_meaning.specs.declared.linked.TypeForm.TheVariants as type
 use Rattle.stack_machine.specs.declared.image.Image.{Image}
@@ -14,7 +17,8 @@ use Rattle.stack_machine.specs.Lines.{lines}
 use Rattle.stack_machine.specs.Machine.{State, after}
 use Rattle.stack_machine.specs.Refusal.{most_instructions}
 use Rattle.main_form.specs.declared.module.Module.{Module}
-use Rattle.main_form.specs.Spelling.{IsNotYet, Spells}
+use Rattle.main_form.specs.declared.file.Shape.TheVariants as shape
+use Rattle.main_form.specs.Shape.{shape_of}
 use Rattle.main_vcs.specs.Linking.{main_of}
 use Rattle.main_vcs.specs.Walk.{conditions_of}
 use Rattle.main_prover.specs.declared.proving.Unproved.{Unproved}
@@ -23,7 +27,7 @@ use Rattle.command_words.specs.Words.{Word, Other, Run, command, read_words}
 use Rattle.resolve_cli.specs.declared.status.LinkError.TheVariants.{CodeTooLong}
 use Rattle.resolve_cli.specs.declared.status.Status.{Status}
 use Rattle.resolve_cli.specs.declared.status.Status.TheVariants as status
-use Rattle.resolve_cli.specs.Texts.{lex_line, not_yet_line, unproved_line}
+use Rattle.resolve_cli.specs.Texts.{lex_line, not_built_line, syntax_line, unproved_line}
 
 -- A module as a linked program, and its code.
 abbrev pub linked_of : Module → Linked
@@ -53,11 +57,13 @@ pub data ModuleAnswer (m : Module) (steps : ℕ) (input : List ℕ) (s : Status)
   bad_input : IsBuilt m → (e : InputError) → reading input ≡ Err e → s ≡ status.BadInput e → out ≡ [] → ModuleAnswer m steps input s out
   ran : IsBuilt m → (numbers : List ℤ) → reading input ≡ Ok numbers → RunAnswer m numbers steps s out → ModuleAnswer m steps input s out
 
--- What a file's text answers, under the name of the file: it has no tokens, its form is not built, or it spells a module.
+-- What a file's text answers, under the name of the file: it has no tokens, its tokens are refused, or it spells components. These are
+-- not of the form that is built, or are a module.
 pub data TextAnswer (name bytes : List ℕ) (steps : ℕ) (input : List ℕ) (s : Status) (out : List ℕ) : Type 0 where
-  no_tokens : (e : LexError) → Refuses bytes e → s ≡ status.Refused (lex_line name e) → out ≡ [] → TextAnswer name bytes steps input s out
-  not_yet : (at : ℕ) → IsNotYet bytes at → s ≡ status.Refused (not_yet_line name at) → out ≡ [] → TextAnswer name bytes steps input s out
-  spelled : (m : Module) → Spells bytes m → ModuleAnswer m steps input s out → TextAnswer name bytes steps input s out
+  lexical : (e : LexError) → Refuses bytes e → s ≡ status.Refused (lex_line name e) → out ≡ [] → TextAnswer name bytes steps input s out
+  syntax_error : (e : SyntaxError) → IsRefused bytes e → s ≡ status.Refused (syntax_line name e) → out ≡ [] → TextAnswer name bytes steps input s out
+  unbuilt : (cs : List Component) (component : List ℕ) (at : ℕ) → Spells bytes cs → shape_of cs ≡ shape.NotBuilt component at → s ≡ status.Refused (not_built_line component at) → out ≡ [] → TextAnswer name bytes steps input s out
+  spelled : (cs : List Component) (m : Module) → Spells bytes cs → shape_of cs ≡ shape.Module m → ModuleAnswer m steps input s out → TextAnswer name bytes steps input s out
 
 -- the most bytes of a component's file
 unfoldable pub most_component_bytes : ℕ

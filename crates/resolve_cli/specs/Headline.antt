@@ -3,13 +3,16 @@ use Rattle.std.specs.Prelude.{◌≡◌, ◌≢◌, ℕ, ◌*◌, ℤ, ◌⊎◌
 use Rattle.std.specs.List.{AllByRecursion}
 use Rattle.edge_io.specs.Files.{Files}
 use Rattle.edge_io.specs.Numbers.{reading}
+use Rattle.res_ast.specs.declared.component.Component.{Component}
+use Rattle.module_parser.specs.Spelling.{Spells}
 use Rattle.source_meaning.specs.declared.trace.Trace.{Trace}
 use Rattle.source_meaning.specs.Trace.{trace_of}
 use Rattle.stack_machine.specs.Lines.{lines}
 use Rattle.stack_machine.specs.Machine.{State, after}
 use Rattle.stack_machine.specs.Simulation.{IsFront}
 use Rattle.main_form.specs.declared.module.Module.{Module}
-use Rattle.main_form.specs.Spelling.{Spells}
+use Rattle.main_form.specs.declared.file.Shape.TheVariants as shape
+use Rattle.main_form.specs.Shape.{shape_of}
 use Rattle.main_vcs.specs.Events.{IsGood}
 use Rattle.main_vcs.specs.Linking.{main_of}
 use Rattle.main_vcs.specs.Soundness.{Allows, IsInput, IsValidCondition}
@@ -23,11 +26,13 @@ use Rattle.resolve_cli.specs.Answer.{Answers, image_of, linked_of}
 abbrev pub meaning_of : Module → List ℤ → ℕ → Trace
 meaning_of m input fuel = trace_of (linked_of m) (main_of m) input fuel
 
--- The text spells a module whose conditions are all valid. On every input of at most 65,535 numbers of 64 bits the machine is never
+-- The text spells components, and these are a module whose conditions are all valid. On every input of at most 65,535 numbers of 64 bits the machine is never
 -- stuck on its image; after n steps it has written a front of what the module means with fuel 2 * n; wherever it halts it has written
 -- what Main allows; and all events of what the module means are good.
 pub record IsRight (bytes : List ℕ) (m : Module) : Type 0 where
-  pub spells : Spells bytes m
+  pub components : List Component
+  pub spells : Spells bytes components
+  pub is : shape_of components ≡ shape.Module m
   pub valid : AllByRecursion IsValidCondition (conditions_of m)
   pub never_stuck : (input : List ℤ) → IsInput input → (n : ℕ) → IsSome (after (image_of m) input n)
   pub front : (input : List ℤ) → IsInput input → (n : ℕ) (s : State) → after (image_of m) input n ≡ Some s → IsFront s.output (meaning_of m input (2 * n)).output

@@ -2,6 +2,9 @@
 use Rattle.std.specs.Prelude.{ℕ, List, [], ◌∷◌, ◌++◌, codes, decimal}
 use Rattle.res_lexer.specs.declared.token.LexError.{LexError}
 use Rattle.res_lexer.specs.declared.token.LexError.TheVariants.{BadByte, OpenComment, LongName, BigLiteral, NoMemory}
+use Rattle.expr_parser.specs.declared.syntax.SyntaxError.{SyntaxError}
+use Rattle.expr_parser.specs.declared.syntax.SyntaxKind.{SyntaxKind}
+use Rattle.expr_parser.specs.declared.syntax.SyntaxKind.TheVariants as syntax_error
 use Rattle.edge_io.specs.declared.numbers.InputError.{InputError}
 use Rattle.edge_io.specs.declared.numbers.InputError.TheVariants as error
 use Rattle.vc_sequents.specs.declared.sequent.VcKind.{VcKind}
@@ -33,9 +36,19 @@ lex_place NoMemory = 0
 abbrev pub lex_line : List ℕ → LexError → List ℕ
 lex_line file e = refused_line file (lex_kind e) (lex_place e)
 
--- a text of another form, under the name of its file
-abbrev pub not_yet_line : List ℕ → ℕ → List ℕ
-not_yet_line file at = refused_line file (codes "NotYet") at
+abbrev pub syntax_kind : SyntaxKind → List ℕ
+syntax_kind syntax_error.Expected = codes "Expected"
+syntax_kind syntax_error.TooDeep = codes "TooDeep"
+syntax_kind syntax_error.EndName = codes "EndName"
+syntax_kind syntax_error.NoMemory = codes "NoMemory"
+
+-- a text whose tokens are refused, under the name of its file
+abbrev pub syntax_line : List ℕ → SyntaxError → List ℕ
+syntax_line file e = refused_line file (syntax_kind e.kind) e.at
+
+-- a component of another form, under its own name
+abbrev pub not_built_line : List ℕ → ℕ → List ℕ
+not_built_line component at = refused_line component (codes "NotBuilt") at
 
 -- the kinds of conditions
 abbrev pub kind_text : VcKind → List ℕ

@@ -5,7 +5,7 @@ ghost use Rattle.edge_io.specs.Numbers.{HadLeft};
 ghost use Rattle.stack_machine.specs.Machine.{after};
 ghost use Rattle.stack_machine.specs.Runs.{HasMain, NeverStuck};
 ghost use Rattle.main_form.specs.declared.module.Module.{Module};
-ghost use Rattle.main_form.specs.Spelling.{IsForm};
+ghost use Rattle.main_form.specs.Formed.{IsForm};
 ghost use Rattle.main_vcs.specs.Soundness.{IsInput};
 ghost use Rattle.resolve_cli.specs.Answer.{IsAccepted, IsBuilt, ModuleAnswer, RunAnswer, image_of};
 ghost use Rattle.resolve_cli.specs.Headline.{IsRunEnd};

@@ -21,6 +21,15 @@ const SILENT: &str =
 const NEGATIVE: &str =
     "Facility N; Operation Main(updates From: In_Stream; updates To: Out_Stream); ensures To = <-7>; Procedure Write(- 7, To); end Main; end N;";
 
+const TWO_MODULES: &str =
+    "Facility Silent; Operation Main(updates In: In_Stream; updates Out: Out_Stream); ensures Out = Empty_String; Procedure end Main; end Silent; Facility Two; end Two;";
+
+const UNDECLARED: &str =
+    "Facility U; Operation Main(updates In: In_Stream; updates Out: Out_Stream); ensures true; Procedure Write(nope * 2, Out); end Main; end U;";
+
+const COMMENTED: &str =
+    "-- a comment\nFacility C; (* another *) Operation Main(updates In: In_Stream; updates Out: Out_Stream); ensures true; Procedure Write(- ( 5 ), Out); end Main; end C;";
+
 fn words_of(alloc: Global, line: &str) -> Result<Vec<String>, AllocError> {
     let mut words = Vec::new(alloc);
     for word in line.split(' ') {
@@ -138,9 +147,50 @@ fn each_command_ends_as_said(rt: HostRuntime) -> Result<(), Fail> {
             "",
             1,
             "",
-            "refused a: NotYet at 12\n",
+            "refused X: NotBuilt at 0\n",
         ),
-        ("run a", "", "", 1, "", "refused a: NotYet at 0\n"),
+        ("run a", "", "", 1, "", "refused a: Expected at 0\n"),
+        (
+            "run a",
+            "Facility X; end Y;",
+            "",
+            1,
+            "",
+            "refused a: EndName at 16\n",
+        ),
+        (
+            "run a",
+            "Facility X; en",
+            "",
+            1,
+            "",
+            "refused a: Expected at 12\n",
+        ),
+        (
+            "run a",
+            TWO_MODULES,
+            "",
+            1,
+            "",
+            "refused Two: NotBuilt at 141\n",
+        ),
+        (
+            "run a",
+            "Facility X; uses Y; end X;",
+            "",
+            1,
+            "",
+            "refused X: NotBuilt at 0\n",
+        ),
+        (
+            "run a",
+            UNDECLARED,
+            "",
+            1,
+            "",
+            "refused U: NotBuilt at 106\n",
+        ),
+        ("run a", COMMENTED, "", 0, "-5\n", ""),
         (
             "run a",
             "Facility $",
@@ -219,6 +269,36 @@ fn too_many_numbers(alloc: Global) -> Result<bool, AllocError> {
     )
 }
 
+// A module with so many statements.
+fn writes(alloc: Global, count: usize) -> Result<Vec<u8>, AllocError> {
+    let mut text = Vec::new(alloc);
+    text.extend_from_slice(
+        b"Facility S; Operation Main(updates In: In_Stream; updates Out: Out_Stream); ensures true; Procedure ",
+    )?;
+    for _ in 0..count {
+        text.extend_from_slice(b"Write(0, Out); ")?;
+    }
+    text.extend_from_slice(b"end Main; end S;")?;
+    Ok(text)
+}
+
+fn too_many_statements(alloc: Global) -> Result<bool, AllocError> {
+    let said = Said {
+        number: 1,
+        notes: "refused S: NotBuilt at 1060\n",
+    };
+    let mut shelf = CalmShelf::new(alloc);
+    let _ = shelf.write("a", writes(alloc, 65)?.as_slice());
+    let mut input = CalmSource::new(Vec::new(alloc));
+    says(
+        alloc,
+        &mut input,
+        &mut CalmSink::new(alloc),
+        &mut shelf,
+        said,
+    )
+}
+
 fn too_long_a_file(alloc: Global) -> Result<bool, AllocError> {
     let said = Said {
         number: 13,
@@ -239,6 +319,7 @@ fn too_long_a_file(alloc: Global) -> Result<bool, AllocError> {
 #[test]
 fn inputs_and_files_have_limits(rt: HostRuntime) -> Result<(), AllocError> {
     assert!(rt; too_many_numbers(rt.alloc())?);
+    assert!(rt; too_many_statements(rt.alloc())?);
     assert!(rt; too_long_a_file(rt.alloc())?);
     Ok(())
 }

@@ -3,6 +3,7 @@
 ghost use Rattle.std.specs.Prelude.{◌≡◌, ◌++◌, IfOk, OnOk, codes, decimal};
 ghost use Rattle.resolve_cli.specs.Texts as spec;
 
+use expr_parser::{SyntaxError, SyntaxKind};
 use itoa::Buffer;
 use main_prover::Unproved;
 use math_terms::{Name, NoMemory};
@@ -72,11 +73,29 @@ pub fn lex_line(alloc: Global, file: &[u8], e: &LexError) -> Result<Name, NoMemo
     refused_line(alloc, file, lex_kind(e), lex_place(e))
 }
 
-/// The line of a file whose form is not built.
-pub fn not_yet_line(alloc: Global, file: &[u8], at: u32) -> Result<Name, NoMemory>
-    ensures { IfOk result (λ line. line ≡ spec.not_yet_line file.now at) }
+fn syntax_kind(kind: SyntaxKind) -> &'static [u8]
+    ensures { result.now ≡ spec.syntax_kind kind }
 {
-    refused_line(alloc, file, b"NotYet", at)
+    match kind {
+        SyntaxKind::Expected => b"Expected",
+        SyntaxKind::TooDeep => b"TooDeep",
+        SyntaxKind::EndName => b"EndName",
+        SyntaxKind::NoMemory => b"NoMemory",
+    }
+}
+
+/// The line of a file whose tokens are refused.
+pub fn syntax_line(alloc: Global, file: &[u8], e: SyntaxError) -> Result<Name, NoMemory>
+    ensures { IfOk result (λ line. line ≡ spec.syntax_line file.now e) }
+{
+    refused_line(alloc, file, syntax_kind(e.kind), e.at)
+}
+
+/// The line of a component whose form is not built.
+pub fn not_built_line(alloc: Global, component: &[u8], at: u32) -> Result<Name, NoMemory>
+    ensures { IfOk result (λ line. line ≡ spec.not_built_line component.now at) }
+{
+    refused_line(alloc, component, b"NotBuilt", at)
 }
 
 /// The word of a kind of conditions.

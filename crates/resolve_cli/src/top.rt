@@ -1,10 +1,9 @@
 //! The top call.
 
-ghost use Rattle.std.specs.Prelude.{◌≡◌, ◌≤◌, ◌<◌, ◌^◌, ◌↔◌, List, ℕ, Option, Some, IsTrue, length, map, slice_get, MatchResult, string_bytes};
+ghost use Rattle.std.specs.Prelude.{◌≡◌, ◌≤◌, ◌<◌, ◌^◌, List, ℕ, Option, Some, IsTrue, length, map, MatchResult, string_bytes};
 ghost use Rattle.edge_io.specs.Files.{Files, SameFiles};
-ghost use Rattle.res_lexer.specs.Tokens.{AreTokens, RefusesOrNoMemory};
+ghost use Rattle.module_parser.specs.Spelling.{RefusesOrNoMemory, Spells};
 ghost use Rattle.command_words.specs.Words.{Run, Word, command};
-ghost use Rattle.main_form.specs.Spelling.{place_or};
 ghost use Rattle.resolve_cli.specs.Answer.{FileAnswer, TextAnswer, most_component_bytes};
 ghost use Rattle.resolve_cli.specs.Headline.{Headline};
 ghost use Rattle.resolve_cli.specs.Resolves.{Counted, DidAnswer, IsTextRefusal, Left, Noted, SomeAnswer};
@@ -14,79 +13,54 @@ use crate::answer_laws::headline;
 use crate::notes::write_note;
 use crate::running::{refused, run_module};
 use crate::status::Status;
-use crate::texts::{lex_line, not_yet_line};
+use crate::texts::{lex_line, not_built_line, syntax_line};
 use command_words::{Command, read_command};
 use edge_io::laws::unchanged;
 use edge_io::shelf::{Shelf, ShelfError};
 use edge_io::sink::Sink;
 use edge_io::source::Source;
-use main_reader::{ReadError, read_module};
+use main_form::{Shape, built_is_formed, main_module};
 use math_terms::{Name, NoMemory};
-use res_lexer::{LexError, Token, tokens, tokens_lie};
+use module_parser::{ParseError, parse};
+use res_ast::Component;
 use std::alloc::Global;
 
 // The most bytes of a component's file.
 const MOST_BYTES: usize = 1048576;
 
-// The place of a token in the file, or the file's length.
-fn place(tokens: &[Token], len: u32, token: usize) -> u32
-    ensures { result ≡ place_or len (slice_get tokens.now token) }
-{
-    match tokens.get(token) {
-        Some(t) => t.at,
-        None => len,
-    }
-}
-
-// Carries out the tokens of a text.
-fn run_tokens<S: Source, K: Sink>(
+// Carries out the components that a text spells.
+fn run_components<S: Source, K: Sink>(
     alloc: Global,
-    file: &str,
-    bytes: &[u8],
-    tokens: &[Token],
+    components: &[Component],
     steps: u64,
     input: &mut S,
     out: &mut K,
 ) -> Status
-    requires short { length bytes.now < 2 ^ 32 }
-    requires few { length tokens.now < 2 ^ 32 }
-    requires are { AreTokens bytes.now tokens.now }
-    ensures answered { SomeAnswer (TextAnswer file.now bytes.now steps) (S.left input.old) result (K.held out.old) (K.held out.new) }
+    ensures answered { (name bytes : List ℕ) → Spells bytes components.now → SomeAnswer (TextAnswer name bytes steps) (S.left input.old) result (K.held out.old) (K.held out.new) }
     ensures left { Left result (S.left input.old) (S.left input.new) (S.faults input.old) (S.faults input.new) }
     ensures out_counted { Counted Status.SinkFault result (K.faults out.old) (K.faults out.new) }
     ensures input_counted { Counted Status.SourceFault result (S.faults input.old) (S.faults input.new) }
     ensures no_shelf { result ≡ Status.ShelfFault → ⊥ }
 {
     unchanged();
-    match read_module(alloc, tokens) {
-        Ok(read) => run_module(alloc, &read, steps, input, out),
-        Err(ReadError::NotYet { token }) => {
-            let at = place(tokens, bytes.len() as u32, token);
-            refused(not_yet_line(alloc, file.as_bytes(), at))
-        }
-        Err(ReadError::NoMemory) => Status::NoMemory,
+    built_is_formed();
+    match main_module(alloc, components) {
+        Ok(Shape::Module(m)) => run_module(alloc, &m, steps, input, out),
+        Ok(Shape::NotBuilt { name, at }) => refused(not_built_line(alloc, name.bytes(), at)),
+        Err(_) => Status::NoMemory,
     }
 }
 
-fn is_no_memory(e: &LexError) -> bool
-    ensures { IsTrue result ↔ (e.now ≡ LexError.NoMemory) }
-{
-    match e {
-        LexError::NoMemory => true,
-        _ => false,
-    }
-}
-
-// The status of a text without tokens.
-fn refuse_text(alloc: Global, file: &str, e: &LexError) -> Status
-    ensures answered { (bytes : List ℕ) (steps : ℕ) (left held : Option (List ℕ)) → RefusesOrNoMemory bytes e.now → SomeAnswer (TextAnswer file.now bytes steps) left result held held }
+// The status of a text that spells nothing.
+fn refuse_text(alloc: Global, file: &str, e: ParseError) -> Status
+    ensures answered { (bytes : List ℕ) (steps : ℕ) (left held : Option (List ℕ)) → RefusesOrNoMemory bytes e → SomeAnswer (TextAnswer file.now bytes steps) left result held held }
     ensures kind { IsTextRefusal result }
 {
     unchanged();
-    if is_no_memory(e) {
-        Status::NoMemory
-    } else {
-        refused(lex_line(alloc, file.as_bytes(), e))
+    match e {
+        ParseError::Lex(e) => refused(lex_line(alloc, file.as_bytes(), &e)),
+        ParseError::Syntax(e) => refused(syntax_line(alloc, file.as_bytes(), e)),
+        ParseError::NoMemory => Status::NoMemory,
     }
 }
 
@@ -107,10 +81,9 @@ fn run_text<S: Source, K: Sink>(
     ensures no_shelf { result ≡ Status.ShelfFault → ⊥ }
 {
     unchanged();
-    tokens_lie();
-    match tokens(alloc, bytes) {
-        Ok(tokens) => run_tokens(alloc, file, bytes, tokens.as_slice(), steps, input, out),
-        Err(e) => refuse_text(alloc, file, &e),
+    match parse(alloc, bytes) {
+        Ok(components) => run_components(alloc, components.as_slice(), steps, input, out),
+        Err(e) => refuse_text(alloc, file, e),
     }
 }
 

@@ -13,7 +13,7 @@ use Rattle.main_form.specs.declared.module.Guard.TheFolds.{fold-Guard}
 use Rattle.main_form.specs.declared.module.Stmt.{Stmt}
 use Rattle.main_form.specs.declared.module.Module.{Module}
 use Rattle.main_vcs.specs.Terms.{num, len, add, sub, both, either, negated, bounds, in_bounds}
-use Rattle.main_vcs.specs.Walk.{Path, Condition, Onward, with_hyps, number_of, compared, names_of, stmts, at_end}
+use Rattle.main_vcs.specs.Walk.{Path, Condition, Onward, with_hyps, compared, stmts, at_end}
 
 pub record Made : Type 0 where
   pub conditions : List Condition
@@ -35,10 +35,9 @@ abbrev pub then_made : Made → Made → List Condition
 then_made x y = x.conditions ++ y.conditions
 
 abbrev pub expr_made_step : Expr-F (Path → Made) → Path → Made
-expr_made_step (Expr-F.Number l) p = made [] (num (number_of l)) p
+expr_made_step (Expr-F.Number n) p = made [] (num n) p
 expr_made_step (Expr-F.Variable k) p = made [] (slice_index_or p.terms k (num (pos 0))) p
 expr_made_step Expr-F.Remaining p = made [] (len p.input) (with_hyps (bounds (len p.input)) p)
-expr_made_step (Expr-F.Brackets a) p = a p
 expr_made_step (Expr-F.Minus at a) p = let x = a p in sum_made at x.conditions (sub (num (pos 0)) x.term) x.point
 expr_made_step (Expr-F.Add at a b) p = let x = a p in let y = b x.point in sum_made at (then_made x y) (add x.term y.term) y.point
 expr_made_step (Expr-F.Sub at a b) p = let x = a p in let y = b x.point in sum_made at (then_made x y) (sub x.term y.term) y.point
@@ -49,7 +48,6 @@ expr_made e = fold-Expr (Path → Made) expr_made_step e
 abbrev pub guard_made_step : Guard-F (Path → Made) → Path → Made
 guard_made_step (Guard-F.Compare c a b) p =
     let x = expr_made a p in let y = expr_made b x.point in made (then_made x y) (compared c x.term y.term) y.point
-guard_made_step (Guard-F.Brackets g) p = g p
 guard_made_step (Guard-F.Not g) p = let x = g p in made x.conditions (negated x.term) x.point
 guard_made_step (Guard-F.And g h) p = let x = g p in let y = h x.point in made (then_made x y) (both x.term y.term) y.point
 guard_made_step (Guard-F.Or g h) p = let x = g p in let y = h x.point in made (then_made x y) (either x.term y.term) y.point
@@ -60,7 +58,7 @@ guard_made g = fold-Guard (Path → Made) guard_made_step g
 -- what goes on where lists of statements are left, the last one first
 abbrev pub under : Module → List (List Stmt) → Onward → Onward
 under m [] go = go
-under m (xs ∷ xss) go = under m xss (stmts (names_of m) m.input xs go)
+under m (xs ∷ xss) go = under m xss (stmts m.variables m.input xs go)
 
 abbrev pub left_over : Module → List (List Stmt) → Onward
 left_over m xss = under m xss (at_end m.claim m.end_at)

@@ -1,14 +1,21 @@
 -- The statements that are left, as the walk has them.
-use Rattle.std.specs.Prelude.{ℕ, ◌+◌, ◌*◌, pos, List, [], ◌∷◌, map, sum, Option, Some, None}
-use Rattle.main_form.specs.Spelling.{stmt_count}
+use Rattle.std.specs.Prelude.{ℕ, suc, ◌+◌, ◌*◌, pos, List, [], ◌∷◌, map, sum, Option, Some, None}
 use Rattle.math_terms.specs.declared.term.Term.{Term}
 use Rattle.main_form.specs.declared.module.Stmt.{Stmt}
+use Rattle.main_form.specs.declared.module.Stmt.TheOpen.{Stmt-F}
+use Rattle.main_form.specs.declared.module.Stmt.TheFolds.{fold-Stmt}
 use Rattle.main_vcs.specs.Terms.{num, len, below}
 use Rattle.main_vcs.specs.Walk.{Path}
 
-abbrev pub or_no_stmts : Option (List Stmt) → List Stmt
-or_no_stmts None = []
-or_no_stmts (Some xs) = xs
+-- how many statements there are, those inside others among them
+abbrev pub stmt_count_step : Stmt-F ℕ → ℕ
+stmt_count_step (Stmt-F.Read at k) = 1
+stmt_count_step (Stmt-F.Write e) = 1
+stmt_count_step (Stmt-F.Assign k e) = 1
+stmt_count_step (Stmt-F.If g a b) = suc (sum a + sum b)
+
+abbrev pub stmt_count : Stmt → ℕ
+stmt_count x = fold-Stmt ℕ stmt_count_step x
 
 -- that there is a number to be read
 abbrev pub readable : Path → Term

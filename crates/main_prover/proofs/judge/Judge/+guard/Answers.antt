@@ -30,9 +30,9 @@ returns-in_ok-a-in-Compare t c =
 pub returns-in-Not : goal.returns-in-Not
 returns-in-Not t c =
     let p = point_of c.args.path.now in
-    let g = c.get-in-Not.result.now in
+    let g = c.get.result.now in
     one_term c.args.m.now negated (guard_made c.args.g.now p) (guard_made g p) (point_of c.guard-g.new.path) c.args.self.now c.guard-g.new.self c.guard-g.result c.negation.result
-    (made_not p c.args.g.now g (c.in-Not.is ∙ ap gd.Not (sym c.get-in-Not.ensures))) c.guard-g.ensures c.negation.ensures
+    (made_not p c.args.g.now g (c.in-Not.is ∙ ap gd.Not (sym c.get.ensures))) c.guard-g.ensures c.negation.ensures
 
 pub returns-in_err-g-in-And : goal.returns-in_err-g-in-And
 returns-in_err-g-in-And t c =
@@ -40,7 +40,7 @@ returns-in_err-g-in-And t c =
     let g = c.get-in-And.result.now in
     let stop = c.in_err-g-in-And.field-0.0 in
     let begins = and_begins p c.args.g.now g c.in-And.h (c.in-And.is ∙ ap (λ x. gd.And x c.in-And.h) (sym c.get-in-And.ensures)) in
-    stop_makes c.args.m.now (guard_made c.args.g.now p) c.args.self.now c.guard-in-And.new.self (point_of c.guard-in-And.new.path) c.from_residual-in_err-g-in-And.result stop (c.from_residual-in_err-g-in-And.ensures).1
+    stop_makes c.args.m.now (guard_made c.args.g.now p) c.args.self.now c.guard.new.self (point_of c.guard.new.path) c.from_residual-in_err-g-in-And.result stop (c.from_residual-in_err-g-in-And.ensures).1
     (begun_stops c.args.m.now (guard_made c.args.g.now p) (guard_made g p).conditions begins.0 c.args.self.now stop begins.1 c.in_err-g-in-And.ensures)
 
 pub returns-in_err-g-in-Or : goal.returns-in_err-g-in-Or
@@ -55,12 +55,12 @@ returns-in_err-g-in-Or t c =
 pub returns-in_ok-g-in-And : goal.returns-in_ok-g-in-And
 returns-in_ok-g-in-And t c =
     let p = point_of c.args.path.now in
-    let q = point_of c.guard-in-And.new.path in
+    let q = point_of c.guard.new.path in
     let g = c.get-in-And.result.now in
     let h = c.get-in-And-2.result.now in
     let first = c.in_ok-g-in-And.ensures in
     let is = c.in-And.is ∙ ap (λ x. gd.And x c.in-And.h) (sym c.get-in-And.ensures) ∙ ap (gd.And g) (sym c.get-in-And-2.ensures) in
-    two_terms c.args.m.now (both c.in_ok-g-in-And.g) (guard_made c.args.g.now p) (guard_made h q) (guard_made g p).conditions (point_of c.guard-h.new.path) c.args.self.now c.guard-in-And.new.self c.guard-h.new.self c.guard-h.result c.conjunction.result
+    two_terms c.args.m.now (both c.in_ok-g-in-And.g) (guard_made c.args.g.now p) (guard_made h q) (guard_made g p).conditions (point_of c.guard-h.new.path) c.args.self.now c.guard.new.self c.guard-h.new.self c.guard-h.result c.conjunction.result
     (made_and p c.args.g.now g h c.in_ok-g-in-And.g q is first.0 first.1) first.2 c.guard-h.ensures c.conjunction.ensures
 
 pub returns-in_ok-g-in-Or : goal.returns-in_ok-g-in-Or

@@ -2,12 +2,12 @@ use Rattle.std.proofs.Common.{◌≡◌, ap, ℕ, ◌+◌, ◌*◌, ◌<◌, [],
 use Rattle.std.specs.Prelude.{sum}
 use Rattle.std.proofs.lemmas.List.{nil_from_length}
 use Rattle.vc_sequents.specs.declared.sequent.VcKind.TheVariants as kinds
-use Rattle.main_form.specs.Spelling.{stmt_count}
+use Rattle.main_prover.specs.working.Remaining.{stmt_count}
 use Rattle.main_vcs.specs.Terms.{negated}
-use Rattle.main_vcs.specs.Walk.{names_of, stmt, conditions, after_read, with_hyps}
+use Rattle.main_vcs.specs.Walk.{stmt, conditions, after_read, with_hyps}
 use Rattle.main_prover.specs.working.Making.{condition_at, expr_made, guard_made, left_over}
 use Rattle.main_prover.specs.working.Points.{point_of, assigned, written}
-use Rattle.main_prover.specs.working.Remaining.{readable, or_no_stmts, weights}
+use Rattle.main_prover.specs.working.Remaining.{readable, weights}
 use Rattle.main_prover.proofs.Going.{memory_stops, memory_judges}
 use Rattle.main_prover.proofs.Stepping.{lists_pop, now_same, sum_first, paths_judge, paths_stop, step_read, step_write, step_assign, step_if, weights_push, after_done, begins_stop, if_judges, empty_last, full_last}
 use Rattle.main_prover.proofs.judge.Judge.+walk.Goals as goal
@@ -26,8 +26,8 @@ step-returns-in-Read t c =
     let m = c.args.m.now in
     let go = left_over m (map (λ xs. xs.now) c.args.todo.items) in
     let p = point_of c.args.path in
-    after_done m (conditions (stmt (names_of m) m.input c.args.x.now go p)) (condition_at kinds.Requires c.in-Read.at p (readable p) ∷ []) (λ q. conditions (go q)) (after_read (names_of m) m.input c.in-Read.k p) (point_of c.read-done.new.path) c.args.self.now c.read-done.new.self c.go_on.new.self c.read-done.result c.go_on.result
-    (step_read (names_of m) m.input go p c.args.x.now c.in-Read.at c.in-Read.k c.in-Read.is) c.read-done.ensures c.go_on.ensures
+    after_done m (conditions (stmt m.variables m.input c.args.x.now go p)) (condition_at kinds.Requires c.in-Read.at p (readable p) ∷ []) (λ q. conditions (go q)) (after_read m.variables m.input c.in-Read.k p) (point_of c.read-done.new.path) c.args.self.now c.read-done.new.self c.go_on.new.self c.read-done.result c.go_on.result
+    (step_read m.variables m.input go p c.args.x.now c.in-Read.at c.in-Read.k c.in-Read.is) c.read-done.ensures c.go_on.ensures
 
 pub step-returns-in-Write : goal.step-returns-in-Write
 step-returns-in-Write t c =
@@ -35,8 +35,8 @@ step-returns-in-Write t c =
     let go = left_over m (map (λ xs. xs.now) c.args.todo.items) in
     let p = point_of c.args.path in
     let x = expr_made c.in-Write.e p in
-    after_done m (conditions (stmt (names_of m) m.input c.args.x.now go p)) x.conditions (λ q. conditions (go q)) (written x.term x.point) (point_of c.write-done.new.path) c.args.self.now c.write-done.new.self c.go_on-in-Write.new.self c.write-done.result c.go_on-in-Write.result
-    (step_write (names_of m) m.input go p c.args.x.now c.in-Write.e c.in-Write.is) c.write-done.ensures c.go_on-in-Write.ensures
+    after_done m (conditions (stmt m.variables m.input c.args.x.now go p)) x.conditions (λ q. conditions (go q)) (written x.term x.point) (point_of c.write-done.new.path) c.args.self.now c.write-done.new.self c.go_on-in-Write.new.self c.write-done.result c.go_on-in-Write.result
+    (step_write m.variables m.input go p c.args.x.now c.in-Write.e c.in-Write.is) c.write-done.ensures c.go_on-in-Write.ensures
 
 pub step-returns-in-Assign : goal.step-returns-in-Assign
 step-returns-in-Assign t c =
@@ -44,8 +44,8 @@ step-returns-in-Assign t c =
     let go = left_over m (map (λ xs. xs.now) c.args.todo.items) in
     let p = point_of c.args.path in
     let x = expr_made c.in-Assign.e p in
-    after_done m (conditions (stmt (names_of m) m.input c.args.x.now go p)) x.conditions (λ q. conditions (go q)) (assigned c.in-Assign.k x.term x.point) (point_of c.assign-done.new.path) c.args.self.now c.assign-done.new.self c.go_on-in-Assign.new.self c.assign-done.result c.go_on-in-Assign.result
-    (step_assign (names_of m) m.input go p c.args.x.now c.in-Assign.k c.in-Assign.e c.in-Assign.is) c.assign-done.ensures c.go_on-in-Assign.ensures
+    after_done m (conditions (stmt m.variables m.input c.args.x.now go p)) x.conditions (λ q. conditions (go q)) (assigned c.in-Assign.k x.term x.point) (point_of c.assign-done.new.path) c.args.self.now c.assign-done.new.self c.go_on-in-Assign.new.self c.assign-done.result c.go_on-in-Assign.result
+    (step_assign m.variables m.input go p c.args.x.now c.in-Assign.k c.in-Assign.e c.in-Assign.is) c.assign-done.ensures c.go_on-in-Assign.ensures
 
 pub step-returns-in-Ok : goal.step-returns-in-Ok
 step-returns-in-Ok t c =
@@ -55,16 +55,16 @@ step-returns-in-Ok t c =
     let p = point_of c.args.path in
     let x = guard_made c.in-If.g p in
     let forked = c.in-Ok.ensures in
-    if_judges m (conditions (stmt (names_of m) m.input c.args.x.now go p)) x.conditions left c.in-If.a (or_no_stmts c.in-If.b) c.as_slice.result.now c.or_empty.result.now (with_hyps (x.term ∷ []) x.point) (point_of c.fork.new.path) (with_hyps (negated x.term ∷ []) x.point) (point_of c.in-Ok.other) c.args.self.now c.fork.new.self c.two_paths.new.self c.two_paths.result
-    (step_if (names_of m) m.input go p c.args.x.now c.in-If.g c.in-If.a c.in-If.b c.in-If.is) c.as_slice.ensures c.or_empty.ensures forked.0 forked.1 forked.2 c.two_paths.ensures
+    if_judges m (conditions (stmt m.variables m.input c.args.x.now go p)) x.conditions left c.in-If.a c.in-If.b c.as_slice.result.now c.as_slice-in-Ok.result.now (with_hyps (x.term ∷ []) x.point) (point_of c.fork.new.path) (with_hyps (negated x.term ∷ []) x.point) (point_of c.in-Ok.other) c.args.self.now c.fork.new.self c.two_paths.new.self c.two_paths.result
+    (step_if m.variables m.input go p c.args.x.now c.in-If.g c.in-If.a c.in-If.b c.in-If.is) c.as_slice.ensures c.as_slice-in-Ok.ensures forked.0 forked.1 forked.2 c.two_paths.ensures
 
 pub step-returns-in-Err : goal.step-returns-in-Err
 step-returns-in-Err t c =
     let m = c.args.m.now in
     let go = left_over m (map (λ xs. xs.now) c.args.todo.items) in
     let p = point_of c.args.path in
-    begins_stop m (conditions (stmt (names_of m) m.input c.args.x.now go p)) (guard_made c.in-If.g p).conditions _ c.args.self.now c.in-Err.s
-    (step_if (names_of m) m.input go p c.args.x.now c.in-If.g c.in-If.a c.in-If.b c.in-If.is) c.in-Err.ensures
+    begins_stop m (conditions (stmt m.variables m.input c.args.x.now go p)) (guard_made c.in-If.g p).conditions _ c.args.self.now c.in-Err.s
+    (step_if m.variables m.input go p c.args.x.now c.in-If.g c.in-If.a c.in-If.b c.in-If.is) c.in-Err.ensures
 
 pub two_paths-returns-in-Ok : goal.two_paths-returns-in-Ok
 two_paths-returns-in-Ok t c =

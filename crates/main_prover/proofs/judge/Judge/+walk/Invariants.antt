@@ -1,6 +1,6 @@
 use Rattle.std.proofs.Common.{ℕ, ◌+◌, ◌*◌, map}
 use Rattle.std.specs.Prelude.{sum}
-use Rattle.main_form.specs.Spelling.{stmt_count}
+use Rattle.main_prover.specs.working.Remaining.{stmt_count}
 use Rattle.main_prover.specs.working.Remaining.{weights}
 use Rattle.main_prover.proofs.judge.Judge.+walk.Given as goal
 
