@@ -28,7 +28,7 @@ all_children (Term-F.Part i j a) = and_assoc i j a ∙ ap (λ b. i && (j && b)) 
 all_children (Term-F.Tuple parts) = refl
 all_children x = simp and-true refl
 
-module _ {Z : Type 0} (p : Z → Bool) (f g : Z → Val) (same_where : (z : Z) → p z ≡ true → f z ≡ g z) where
+module _ {Z V : Type 0} (p : Z → Bool) (f g : Z → V) (same_where : (z : Z) → p z ≡ true → f z ≡ g z) where
   lists_agree : (zs : List Z) → list_all (λ b. b) (map p zs) ≡ true → map f zs ≡ map g zs
   lists_agree [] h = refl
   lists_agree (z ∷ zs) h =
@@ -36,11 +36,11 @@ module _ {Z : Type 0} (p : Z → Bool) (f g : Z → Val) (same_where : (z : Z) �
       λ i. same_where z q.0 i ∷ lists_agree zs q.1 i
 
   -- A node maps to one node where its children do.
-  pub nodes_agree : (x : Term-F Z) → every_child (map-Term Z Bool p x) ≡ true → map-Term Z Val f x ≡ map-Term Z Val g x
+  pub nodes_agree : (x : Term-F Z) → every_child (map-Term Z Bool p x) ≡ true → map-Term Z V f x ≡ map-Term Z V g x
   nodes_agree x h =
       let m = mapped_heads f x in
       let n = mapped_heads g x in
-      same_heads (map-Term Z Val f x) (map-Term Z Val g x) (m.0 ∙ sym n.0) (m.1 ∙ sym n.1)
+      same_heads (map-Term Z V f x) (map-Term Z V g x) (m.0 ∙ sym n.0) (m.1 ∙ sym n.1)
       (m.2 ∙ lists_agree (children x) (ap (list_all (λ b. b)) (sym (mapped_heads p x).2) ∙ sym (all_children (map-Term Z Bool p x)) ∙ h) ∙ sym n.2)
 
 -- the value of a fixed node depends on nothing else

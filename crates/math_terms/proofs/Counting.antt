@@ -21,7 +21,7 @@ capped_var : (m n : ℕ) (b : Bool) → min (if b then n else 1) (m + 1) ≡ min
 capped_var m n true = omega arith
 capped_var m n false = refl
 
-capped : (m : ℕ) (x : Term-F ℕ) → min (nodes_step x) (m + 1) ≡ min (nodes_step (map-Term ℕ ℕ (λ k. min k (m + 1)) x)) (m + 1)
+pub capped : (m : ℕ) (x : Term-F ℕ) → min (nodes_step x) (m + 1) ≡ min (nodes_step (map-Term ℕ ℕ (λ k. min k (m + 1)) x)) (m + 1)
 capped m x =
     let kids = ap sum (mapped_heads (λ k. min k (m + 1)) x).2 in
     omega (arith, nodes_of_node x, nodes_of_node (map-Term ℕ ℕ (λ k. min k (m + 1)) x), kids, capped_sum m (children x))

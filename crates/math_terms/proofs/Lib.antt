@@ -14,3 +14,6 @@ pub mod Clashes
 mod WellSorted
 mod WellValued
 mod Mentioned
+pub mod Fillings
+mod FilledValues
+mod FilledKinds

@@ -1,5 +1,5 @@
 -- When a term is well-valued: each node's children have values of the kinds that it asks for.
-use Rattle.std.specs.Prelude.{◌≡◌, Bool, true, ◌&&◌, []}
+use Rattle.std.specs.Prelude.{◌≡◌, ℕ, Bool, true, ◌&&◌, []}
 use Rattle.math_terms.specs.declared.descriptor.Sort.{Sort}
 use Rattle.math_terms.specs.declared.term.Term.{Term}
 use Rattle.math_terms.specs.declared.term.Term.TheOpen.{Term-F}
@@ -60,3 +60,24 @@ HasKind I w t s = kinding I w t ≡ (s, true)
 -- a well-valued formula: its value is a truth value
 abbrev pub IsFormula : Interpretation → Valuation → Term → Type 0
 IsFormula I w f = HasKind I w f b
+
+-- whether each value of which the node says that it is initial for a type parameter passes a test
+abbrev pub asks : (ℕ → Val → Bool) → Term-F Val → Bool
+asks test (Term-F.Initial k v) = test k v
+asks test x = true
+
+-- a term's value, and whether the term is well-valued and each such value passes
+abbrev pub asking_step : (ℕ → Val → Bool) → Interpretation → Valuation → Term-F Valued → Valued
+asking_step test I w x =
+    let v : Valued = valued_step I w x in
+    (v.0, v.1 && asks test (map-Term Valued Val (λ p. p.0) x))
+
+abbrev pub asking : (ℕ → Val → Bool) → Interpretation → Valuation → Term → Valued
+asking test I w t = fold-Term Valued (asking_step test I w) t
+
+abbrev pub kinding_asking : (ℕ → Val → Bool) → Interpretation → Valuation → Term → Kinding
+kinding_asking test I w t = (kind_of (asking test I w t).0, (asking test I w t).1)
+
+-- The term is well-valued, its value is of this kind, and each value that it asks of passes the test.
+abbrev pub HasKindAsking : (ℕ → Val → Bool) → Interpretation → Valuation → Term → Sort → Type 0
+HasKindAsking test I w t s = kinding_asking test I w t ≡ (s, true)

@@ -1,5 +1,6 @@
 pub mod Values
 pub mod Terms
+pub mod Filling
 pub mod Meaning
 pub mod Mentions
 pub mod Descriptors

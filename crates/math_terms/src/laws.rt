@@ -1,6 +1,6 @@
 //! Laws of the definitions. The functions do nothing: their contracts are what is proved.
 
-ghost use Rattle.math_terms.specs.Laws.{SubstitutionKeepsValues, SubstitutionKeepsKinds, EqualityIsSameness, SameTermsAreEqual, ValuesHaveKinds, StringsHaveKinds, SortsHaveKinds, SortedAreWell};
+ghost use Rattle.math_terms.specs.Laws.{AllMayBeAsked, FillingKeepsKinds, FillingKeepsTruth, FillingKeepsValues, SubstitutionKeepsValues, SubstitutionKeepsKinds, EqualityIsSameness, SameTermsAreEqual, ValuesHaveKinds, StringsHaveKinds, SortsHaveKinds, SortedAreWell};
 
 /// A substituted term has the value of the term where the variable has the value of what is put for it.
 pub fn substitution_keeps_values()
@@ -42,4 +42,25 @@ pub fn sorted_are_well()
 /// Substitution for a variable of the same value keeps terms well-valued.
 pub fn substitution_keeps_kinds()
     ensures { SubstitutionKeepsKinds }
+{}
+
+/// A filled term has the value of the term where the variables and type parameters mean what is put for them.
+pub fn filling_keeps_values()
+    ensures { FillingKeepsValues }
+{}
+
+/// A filled formula is true where the formula is under an interpretation that makes of the type parameters what is put for
+/// them.
+pub fn filling_keeps_truth()
+    ensures { FillingKeepsTruth }
+{}
+
+/// Filling keeps terms well-valued, and their values.
+pub fn filling_keeps_kinds()
+    ensures { FillingKeepsKinds }
+{}
+
+/// Where each value passes, well-valued terms ask only of values that pass.
+pub fn all_may_be_asked()
+    ensures { AllMayBeAsked }
 {}

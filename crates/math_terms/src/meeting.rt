@@ -10,7 +10,7 @@ use std::alloc::Global;
 
 /// What a sort gives where it meets another, and none where the two do not meet.
 #[cycle(meet)]
-pub(crate) fn meet(alloc: Global, s: &Sort, t: &Sort) -> Result<Option<Sort>, NoMemory>
+pub fn meet(alloc: Global, s: &Sort, t: &Sort) -> Result<Option<Sort>, NoMemory>
     ensures { IfOk result (λ o. o ≡ meet s.now t.now) }
 {
     match s {

@@ -74,7 +74,7 @@ fn count_tuple(parts: &[Term], v: u32, weight: u32, most: u32) -> u32
 }
 
 /// One more than three counts, at most `most + 1`.
-fn one_more(most: u32, a: u32, b: u32, c: u32) -> u32
+pub(crate) fn one_more(most: u32, a: u32, b: u32, c: u32) -> u32
     requires { most < 2 ^ 32 - 1 }
     ensures { result ≡ min (1 + a + b + c) (most + 1) }
 {
@@ -83,7 +83,7 @@ fn one_more(most: u32, a: u32, b: u32, c: u32) -> u32
 }
 
 /// The sum of two counts, at most `most + 1`.
-fn up_to(most: u32, a: u32, b: u32) -> u32
+pub(crate) fn up_to(most: u32, a: u32, b: u32) -> u32
     requires { most < 2 ^ 32 - 1 }
     ensures { result ≡ min (a + b) (most + 1) }
 {

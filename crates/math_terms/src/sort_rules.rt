@@ -1,4 +1,4 @@
-//! What sort a node has whose children have these sorts.
+//! What sort a node has whose children have these sorts: the rule of each form, for a walk over any tree of such nodes.
 
 ghost use Rattle.std.specs.Option.{option_copied};
 ghost use Rattle.std.specs.Prelude.{◌≡◌, IfOk, List, slice_get, if◌then◌else◌};
@@ -24,11 +24,8 @@ pub(crate) fn variable(k: u32, vars: &[Sort]) -> Option<&Sort>
     vars.get(k as usize - 1)
 }
 
-pub(crate) fn sort_of_variable(
-    alloc: Global,
-    k: u32,
-    vars: &[Sort],
-) -> Result<Option<Sort>, NoMemory>
+/// The sort of a variable, a copy, those of `vars` numbered from 1; none for 0 and for a number beyond them.
+pub fn sort_of_variable(alloc: Global, k: u32, vars: &[Sort]) -> Result<Option<Sort>, NoMemory>
     ensures { IfOk result (λ o. o ≡ sort_of_var vars.now k) }
 {
     match variable(k, vars) {
@@ -37,7 +34,8 @@ pub(crate) fn sort_of_variable(
     }
 }
 
-pub(crate) fn sort_of_one(alloc: Global, op: Unary, a: Sort) -> Result<Option<Sort>, NoMemory>
+/// The sort of a node with this over one child; none where the child's sort does not fit.
+pub fn sort_of_one(alloc: Global, op: Unary, a: Sort) -> Result<Option<Sort>, NoMemory>
     ensures { (vars : List Sort) → IfOk result (λ o. o ≡ sort_step vars (unary_node op (Some a))) }
 {
     match op {
@@ -51,12 +49,8 @@ pub(crate) fn sort_of_one(alloc: Global, op: Unary, a: Sort) -> Result<Option<So
     }
 }
 
-pub(crate) fn sort_of_two(
-    alloc: Global,
-    op: Binary,
-    a: &Sort,
-    b: &Sort,
-) -> Result<Option<Sort>, NoMemory>
+/// The sort of a node with this between two children; none where their sorts do not fit.
+pub fn sort_of_two(alloc: Global, op: Binary, a: &Sort, b: &Sort) -> Result<Option<Sort>, NoMemory>
     ensures { (vars : List Sort) → IfOk result (λ o. o ≡ sort_step vars (binary_node op (Some a.now) (Some b.now))) }
 {
     match op {
@@ -76,14 +70,16 @@ pub(crate) fn sort_of_two(
     }
 }
 
-pub(crate) fn sort_of_part(i: &Sort, j: &Sort, a: Sort) -> Option<Sort>
+/// The sort of the entries from i on and before j of a string; none where the children's sorts do not fit.
+pub fn sort_of_part(i: &Sort, j: &Sort, a: Sort) -> Option<Sort>
     ensures { (vars : List Sort) → result ≡ sort_step vars (Term-F.Part (Some i.now) (Some j.now) (Some a)) }
 {
     let is_string = a.is_string();
     only(i.is_number() && j.is_number() && is_string, a)
 }
 
-pub(crate) fn sort_of_projection(k: u32, a: Sort) -> Option<Sort>
+/// The sort of part k, counted from 0, of a product; none where the child is no product or has no such part.
+pub fn sort_of_projection(k: u32, a: Sort) -> Option<Sort>
     ensures { (vars : List Sort) → result ≡ sort_step vars (Term-F.Proj k (Some a)) }
 {
     match a {
@@ -92,7 +88,8 @@ pub(crate) fn sort_of_projection(k: u32, a: Sort) -> Option<Sort>
     }
 }
 
-pub(crate) fn sort_of_initial(alloc: Global, k: u32, a: &Sort) -> Result<Option<Sort>, NoMemory>
+/// The sort of the node that says that a value is initial for type formal k; none where the child is not of that type.
+pub fn sort_of_initial(alloc: Global, k: u32, a: &Sort) -> Result<Option<Sort>, NoMemory>
     ensures { (vars : List Sort) → IfOk result (λ o. o ≡ sort_step vars (Term-F.Initial k (Some a.now))) }
 {
     Ok(truth_of_some(meet(alloc, a, &Sort::Param(k))?))

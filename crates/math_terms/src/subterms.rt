@@ -26,7 +26,7 @@ impl Term {
             View::One(_, a) => only(number, a),
             View::Two(_, a, b) => one_of_two(number, a, b),
             View::Part(i, j, a) => one_of_three(number, i, j, a),
-            View::Tuple(parts) => part(number, parts),
+            View::Tuple(parts) => numbered(number, parts),
             View::Proj(_, a) => only(number, a),
             View::Initial(_, a) => only(number, a),
             _ => None,
@@ -71,7 +71,8 @@ fn one_of_three<'a>(number: u32, i: &'a Term, j: &'a Term, a: &'a Term) -> Optio
     }
 }
 
-fn part(number: u32, parts: &[Term]) -> Option<&Term>
+/// The part of this number, counted from 1.
+pub(crate) fn numbered(number: u32, parts: &[Term]) -> Option<&Term>
     ensures { option_copied result ≡ spec.numbered number parts.now }
 {
     if number == 0 {
