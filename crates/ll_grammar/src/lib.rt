@@ -11,7 +11,7 @@ mod reader;
 mod stack;
 
 pub use form::{Grammar, Move, Symbol};
-pub use laws::{along, fair_watch, made_is_derived, one_way};
+pub use laws::{along, fair_watch, made_is_derived, one_derivation, one_way};
 pub use prefix::{Prefix, derive_prefix};
 pub use reader::{Answer, derive, symbols_of};
 pub use stack::Stack;

@@ -2,7 +2,8 @@
 use Rattle.std.specs.Prelude.{◌≡◌, ℕ, ◌+◌, ◌<◌, ◌≤◌, Bool, true, List, [], ◌∷◌, ◌++◌, take, length, Some, None}
 use Rattle.ll_grammar.specs.declared.form.Move.{Move}
 use Rattle.ll_grammar.specs.declared.form.Move.TheVariants.{Shift}
-use Rattle.ll_grammar.specs.Grammar.{Rules}
+use Rattle.ll_grammar.specs.declared.form.Symbol.TheVariants.{Nonterminal}
+use Rattle.ll_grammar.specs.Grammar.{Rules, Derives}
 use Rattle.ll_grammar.specs.Texts.{Read}
 use Rattle.ll_grammar.specs.Watch.{watched, Passes, IsText, BeginsText, IsViable}
 use Rattle.res_lexer.specs.declared.token.Token.{Token}
@@ -94,6 +95,9 @@ OneRefusal g start = (ts : List Token) (p q : ℕ) (f k : Fault) → IsRefusedAt
 
 abbrev pub TextsAreNotRefused : Rules → ℕ → Type 0
 TextsAreNotRefused g start = (ts : List Token) (moves : List Move) (place : ℕ) (f : Fault) → IsTextBy g start moves ts → IsRefusedAt g start ts place f → ⊥
+
+abbrev pub OneDerivation : Rules → ℕ → Type 0
+OneDerivation g start = (moves : List Move) (words : List ℕ) → Derives g moves (Nonterminal start ∷ []) words → Read g start words moves
 
 -- ---- what the walk over the moves goes by: one token
 

@@ -18,5 +18,5 @@ pub use class::{class_of, class_of_word};
 pub use expressions::{PrefixReading, read_expression};
 pub use grammars::{grammar_of_expressions, grammar_of_texts};
 pub use place::place_of;
-pub use reading::{Reading, one_answer, read_text};
+pub use reading::{Reading, one_answer, one_derivation, read_text};
 pub use watches::Fault;

@@ -8,7 +8,7 @@ ghost use Rattle.ll_grammar.specs.Watch.{have_classes};
 ghost use Rattle.res_grammar.specs.Language.{language_rules, language_table};
 ghost use Rattle.res_grammar.specs.Expressions.{expression_table};
 ghost use Rattle.res_grammar.specs.Classes.{classes_of};
-ghost use Rattle.res_grammar.specs.Faults.{AllPass, IsRefusedAt, IsTextBy, MatchReading, OneRefusal, StopsAt, TextsAreNotRefused};
+ghost use Rattle.res_grammar.specs.Faults.{AllPass, IsRefusedAt, IsTextBy, MatchReading, OneDerivation, OneRefusal, StopsAt, TextsAreNotRefused};
 ghost use Rattle.res_grammar.specs.Numbers.{class_count};
 ghost use Rattle.res_grammar.specs.Laws.{Laws};
 
@@ -126,4 +126,11 @@ pub fn one_answer()
     ensures expression { TextsAreNotRefused language_rules expression_table.start }
 {
     laws();
+}
+
+/// The tokens of a file have one derivation at most. The call does nothing.
+pub fn one_derivation()
+    ensures { OneDerivation language_rules language_table.start }
+{
+    ll_grammar::one_derivation();
 }
