@@ -1,2 +1,4 @@
 pub mod WellFormed
+pub mod Unplaced
+pub mod MinusZero
 pub mod ReadsBack

@@ -1,10 +1,12 @@
 -- Expressions that some text spells, places aside.
-use Rattle.std.specs.Prelude.{ℕ, eqb, Bool, true, false, ◌&&◌, if◌then◌else◌, List, [], ◌∷◌, Option, Some, None, codes}
+use Rattle.std.specs.Prelude.{ℕ, ℤ, suc, pos, negsuc, eqb, nat_le, length, Bool, true, false, ◌&&◌, if◌then◌else◌, List, [], ◌∷◌, Option, Some, None, codes}
 use Rattle.res_ast.specs.declared.expression.Expr.{Expr}
 use Rattle.res_ast.specs.declared.expression.Form.{Form}
 use Rattle.res_ast.specs.declared.expression.Form.TheOpen.{Form-F, Expr-F}
 use Rattle.res_ast.specs.declared.expression.Form.TheViews.{roll-Form}
 use Rattle.res_ast.specs.declared.expression.Form.TheFolds.{fold-Expr, fold-Form}
+use Rattle.identifiers.specs.Identifiers.{is_identifier}
+use Rattle.res_lexer.specs.Pieces.{greatest_literal, most_name_bytes}
 use Rattle.res_grammar.specs.Classes.{class_of_word}
 use Rattle.res_grammar.specs.Numbers as n
 use Rattle.expr_parser.specs.Actions.{expression}
@@ -22,9 +24,14 @@ unplaced_form = fold-Form Form Expr roll-Form unplaced_step
 
 -- ---- what a text spells
 
--- a name that is no word of the language
+-- an identifier that is no word of the language, and no longer than one may be
 abbrev pub is_name : List ℕ → Bool
-is_name name = eqb (class_of_word name) n.id
+is_name name = eqb (class_of_word name) n.id && (is_identifier name && nat_le (length name) most_name_bytes)
+
+-- a literal, behind a minus sign if it is below 0
+abbrev pub is_literal : ℤ → Bool
+is_literal (pos n) = nat_le n greatest_literal
+is_literal (negsuc n) = nat_le (suc n) greatest_literal
 
 abbrev pub same : List ℕ → List ℕ → Bool
 same [] [] = true
@@ -74,7 +81,7 @@ call_is_well_formed None name args = callable_with name args
 call_is_well_formed (Some facility) name args = is_name facility && callable name
 
 abbrev pub well_formed_step : Form-F Bool Bool → Bool
-well_formed_step (Form-F.Int k) = true
+well_formed_step (Form-F.Int k) = is_literal k
 well_formed_step (Form-F.Truth b) = true
 well_formed_step Form-F.MinInt = true
 well_formed_step Form-F.MaxInt = true

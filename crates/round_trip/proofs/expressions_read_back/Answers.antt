@@ -2,4 +2,4 @@ use Rattle.round_trip.proofs.Reading.{reads_back}
 use Rattle.round_trip.proofs.expressions_read_back.Goals as goal
 
 pub returns : goal.returns
-returns c = reads_back c.made_is_derived.ensures
+returns c = reads_back c.identifier_laws.ensures.plain c.made_is_derived.ensures
