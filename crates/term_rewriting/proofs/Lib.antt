@@ -1,0 +1,3 @@
+pub mod Opened
+pub mod Listed
+pub mod Truths
