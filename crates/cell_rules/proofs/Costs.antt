@@ -1,5 +1,5 @@
 -- A child has fewer nodes than its node.
-use Rattle.std.proofs.Common.{◌≡◌, ◌∙◌, ap, refl, ℕ, zero, suc, ◌+◌, ◌≤◌, List, [], ◌∷◌, map, sum, Some, slice_get, arith}
+use Rattle.std.proofs.Common.{◌≡◌, ◌∙◌, ap, refl, ℕ, zero, suc, ◌+◌, ◌<◌, ◌≤◌, length, List, [], ◌∷◌, map, sum, Some, slice_get, arith}
 use Rattle.std.proofs.lemmas.List.Sums.{sum_by-cons}
 use Rattle.math_terms.specs.declared.term.Term.{Term}
 use Rattle.math_terms.specs.declared.term.Term.TheOpen.{Term-F}
@@ -36,3 +36,15 @@ among (t ∷ ts) (suc k) u e = omega (arith, nodes_total t, among ts k u e)
 
 pub child_cost : (t u : Term) (k : ℕ) → slice_get (children (out-Term t)) k ≡ Some u → nodes u + k + 1 ≤ nodes t
 child_cost t u k e = omega (arith, nodes_total t, among (children (out-Term t)) k u e)
+
+at_least : (ts : List Term) → length ts ≤ total (map nodes ts)
+at_least [] = omega arith
+at_least (t ∷ ts) = omega (arith, nodes_total t, at_least ts)
+
+pub more_nodes : (t : Term) → length (children (out-Term t)) < nodes t
+more_nodes t = omega (arith, nodes_total t, at_least (children (out-Term t)))
+
+pub two_cost : (t a b : Term) → children (out-Term t) ≡ a ∷ b ∷ [] → nodes a + nodes b < nodes t
+two_cost t a b e =
+    let sum_is : total (map nodes (children (out-Term t))) ≡ nodes a + (nodes b + 0) = ap (λ ts. total (map nodes ts)) e in
+    omega (arith, nodes_total t, sum_is)

@@ -1,5 +1,5 @@
 -- What stood stands when cells are added.
-use Rattle.std.proofs.Common.{◌≡◌, ◌∙◌, sym, ap, subst, ℕ, ◌+◌, ◌<◌, ◌≤◌, pos, ℤ, true, List, [], ◌∷◌, ◌++◌, length, append_assoc, Option, Some, None, IfNone, IfErr, Result, Ok, Err, inl, inr, arith}
+use Rattle.std.proofs.Common.{◌≡◌, ◌∙◌, sym, ap, subst, ℕ, ◌+◌, ◌<◌, ◌≤◌, pos, ℤ, true, List, [], ◌∷◌, ◌++◌, length, append_assoc, Option, Some, None, IfNone, IfErr, Result, Ok, Err, ⊎_elim, inl, inr, arith}
 use Rattle.std.proofs.lemmas.List.{append-nil, length-append}
 use Rattle.math_terms.specs.declared.term.Term.{Term}
 use Rattle.math_terms.specs.declared.term.Term.TheOpen.{Term-F}
@@ -122,3 +122,15 @@ short_after a b m n k f h l = by_case h
     by_case : IsShort b n → IsShort a k
     by_case (inl h) = inl (omega (arith, size, f.room, f.few, h, l))
     by_case (inr h) = inr (omega (arith, size, f.few, h, l))
+
+pub if_none_then : {A P Q : Type 0} (r : Option A) → (P → Q) → IfNone r P → IfNone r Q
+if_none_then None f h = f h
+if_none_then (Some x) f h = tt
+
+-- want of room for one cell, and after other cells have come
+pub pushed_short : (a b : Store) (c : Cell) (r : Option ℕ) → Pushes a b c r → IfNone r (IsShort a 2)
+pushed_short a b c None h = ⊎_elim (λ l. inl (omega (arith, l))) (λ l. inr (omega (arith, l))) h.1
+pushed_short a b c (Some at) h = tt
+
+pub pushed_after : (a b d : Store) (c : Cell) (r : Option ℕ) (m k : ℕ) → Grows a b m → Pushes b d c r → m < k → IfNone r (IsShort a k)
+pushed_after a b d c r m k g h l = if_none_then r (λ s. short_after a b m 2 k g s (omega (arith, l))) (pushed_short b d c r h)

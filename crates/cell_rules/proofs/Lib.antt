@@ -4,3 +4,6 @@ pub mod Linking
 pub mod Exchanged
 pub mod Costs
 pub mod Stepping
+pub mod Paired
+pub mod Chained
+pub mod Answered

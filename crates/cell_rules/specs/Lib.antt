@@ -5,3 +5,5 @@ pub mod Joining
 pub mod Using
 pub mod Exchanging
 pub mod Answering
+pub mod Pairing
+pub mod Chaining

@@ -13,18 +13,17 @@ ghost use Rattle.cell_rules.specs.Exchanging.{place_of, with_place};
 
 use math_terms::Form;
 use term_cells::{
-    Cell, Cells, node_stands_next, standing_lasts, standing_opens, stands_below_next,
+    Cell, Cells, node_stands_next, parts_last, parts_open, standing_lasts, standing_opens,
+    stands_below_next,
 };
-
-/// What stands in place of a form's number at a part before others.
-const LINK: u8 = 27;
 
 /// The place of part k of a list.
 pub(crate) fn part(cells: &Cells, list: u32, k: u64) -> Option<u32>
     ensures { (limit : ℕ) (ts : List Term) → parts_stand cells.now.0 (map (stands cells.now.0) ts) list limit ≡ true → PartAt cells.now.0 ts k result }
 {
+    parts_open();
     let cell = cells.at(list)?;
-    if cell.form != LINK {
+    if !cell.is_link() {
         return None;
     }
     match k.checked_sub(1) {
@@ -40,8 +39,9 @@ fn with_part(cells: &mut Cells, list: u32, k: u32, new: u32) -> Option<u32>
     ensures standing { (limit : ℕ) (ts : List Term) (u n : Term) → parts_stand cells.old.0 (map (stands cells.old.0) ts) list limit ≡ true → slice_get ts k ≡ Some u → stands cells.old.0 n new ≡ true → IfSome result (λ at. parts_stand cells.new.0 (map (stands cells.new.0) (set ts k n)) at (length cells.new.0) ≡ true) }
 {
     standing_lasts();
+    parts_open();
     let cell = cells.at(list)?;
-    if cell.form != LINK {
+    if !cell.is_link() {
         return None;
     }
     match k.checked_sub(1) {
@@ -60,14 +60,9 @@ fn link(cells: &mut Cells, part: u32, rest: u32) -> Option<u32>
     ensures standing { (ts : List Term) (t : Term) → stands cells.old.0 t part ≡ true → parts_stand cells.old.0 (map (stands cells.old.0) ts) rest (length cells.old.0) ≡ true → IfSome result (λ at. parts_stand cells.new.0 (map (stands cells.new.0) (t ∷ ts)) at (length cells.new.0) ≡ true) }
 {
     standing_lasts();
+    parts_last();
     stands_below_next();
-    cells.push(Cell {
-        form: LINK,
-        own: 0,
-        a: part,
-        b: rest,
-        c: 0,
-    })
+    cells.push(Cell::link(part, rest))
 }
 
 /// Where a cell says that child k stands.

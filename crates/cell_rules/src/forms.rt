@@ -3,7 +3,8 @@
 ghost use Rattle.std.specs.Prelude.{◌≡◌, ℕ, pos, true, Some};
 ghost use Rattle.math_terms.specs.declared.term.Term.{Term};
 ghost use Rattle.term_cells.specs.Standing.{stands};
-ghost use Rattle.str_theory.specs.Forms.{is_empty, when_cat, when_eq, when_len, when_reverse, when_single};
+ghost use Rattle.str_theory.specs.Chains.{is_single};
+ghost use Rattle.str_theory.specs.Forms.{is_empty, is_name, when_cat, when_eq, when_len, when_reverse, when_single};
 ghost use Rattle.cell_rules.specs.Looking.{LooksOne, LooksPart, LooksProj, LooksTuple, LooksTwo};
 
 use math_terms::Form;
@@ -106,6 +107,28 @@ pub(crate) fn holds_empty(cells: &Cells, p: u32) -> bool
     standing_opens();
     match cells.at(p) {
         Some(cell) => cell.is(Form::Empty),
+        None => false,
+    }
+}
+
+/// Whether a place holds a string of one element, written as such.
+pub(crate) fn holds_single(cells: &Cells, p: u32) -> bool
+    ensures { (t : Term) → stands cells.now.0 t p ≡ true → result ≡ is_single t }
+{
+    standing_opens();
+    match cells.at(p) {
+        Some(cell) => cell.is(Form::Single),
+        None => false,
+    }
+}
+
+/// Whether a place holds a variable or a projection.
+pub(crate) fn holds_name(cells: &Cells, p: u32) -> bool
+    ensures { (t : Term) → stands cells.now.0 t p ≡ true → result ≡ is_name t }
+{
+    standing_opens();
+    match cells.at(p) {
+        Some(cell) => cell.is(Form::Var) || cell.is(Form::Proj),
         None => false,
     }
 }

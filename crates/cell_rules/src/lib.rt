@@ -1,6 +1,7 @@
 //! Rewriting rules on terms in cells. No memory is taken.
 #![tactic(auto)]
 
+mod chains;
 mod children;
 mod concatenations;
 mod equations;
@@ -9,11 +10,14 @@ mod joins;
 mod known;
 mod lengths;
 mod making;
+mod names;
+mod pairs;
 mod parts;
 mod reversals;
 mod rewriting;
 mod rewritten;
 mod sketch;
+mod spine;
 mod tuples;
 
 pub use rewriting::Rule;

@@ -1,18 +1,19 @@
 -- What chains hold.
-use Rattle.std.proofs.Common.{◌≡◌, ◌∙◌, sym, ap, refl, subst, List, [], ◌∷◌, ◌++◌, Some, append_assoc}
+use Rattle.std.proofs.Common.{◌≡◌, ◌∙◌, sym, ap, refl, subst, false, List, [], ◌∷◌, ◌++◌, Some, append_assoc}
 use Rattle.std.proofs.lemmas.List.{append-nil}
 use Rattle.std.specs.List.{AllByRecursion}
 use Rattle.math_terms.specs.declared.descriptor.Sort.{Sort}
 use Rattle.math_terms.specs.declared.term.Term.{Term}
 use Rattle.math_terms.specs.declared.term.Term.TheOpen.{Term-F}
-use Rattle.math_terms.specs.declared.term.Term.TheViews.{roll-Term}
+use Rattle.math_terms.specs.declared.term.Term.TheViews.{out-Term, roll-Term, roll-out-Term}
 use Rattle.math_terms.specs.declared.term.Term.TheFolds.{map-Term, fold-roll-Term, ind-Term}
 use Rattle.math_terms.specs.Sorts.{any, str}
 use Rattle.math_terms.specs.Values.{Val}
 use Rattle.math_terms.specs.Meaning.{Valuation}
 use Rattle.math_terms.specs.Descriptors.{Interpretation}
-use Rattle.str_theory.specs.Forms.{cat, empty}
-use Rattle.str_theory.specs.Chains.{Chained, chain, chain_step, chained, front, joined, last, rebuilt}
+use Rattle.str_theory.specs.Forms.{cat, empty, empty_form}
+use Rattle.str_theory.specs.Chains.{Chained, cat_shape, chain, chain_step, chained, front, joined, last, rebuilt}
+use Rattle.str_theory.specs.Laws.{ChainsOpen}
 use Rattle.math_terms.specs.Kinding.{HasKind, kinding}
 use Rattle.str_theory.proofs.Folds.{map-map}
 use Rattle.str_theory.proofs.Kinded.{make_cat, make_empty, open_cat}
@@ -49,6 +50,18 @@ chain_cat a b = chain_roll (Term-F.Cat a b) ∙ ap (λ t. t ∷ chain b) (chaine
 
 pub chain_empty : chain empty ≡ []
 chain_empty = chain_roll Term-F.Empty
+
+chain_other : (x : Term-F Term) → cat_shape x ≡ false → empty_form x ≡ false → chain (roll-Term x) ≡ roll-Term x ∷ []
+chain_other (Term-F.Cat a b) f e = cc
+chain_other Term-F.Empty f e = cc
+chain_other x f e = chain_roll x ∙ ap (λ t. t ∷ []) (rebuilt_term x)
+
+pub chains_open : ChainsOpen
+chains_open = record {
+  of_cat = chain_cat;
+  of_empty = chain_empty;
+  of_other = λ t f e. subst (λ u. chain u ≡ u ∷ []) (roll-out-Term t) (chain_other (out-Term t) f e);
+}
 
 module _ (vars : List Sort) (I : Interpretation) (w : Valuation) where
   abbrev pub AreStrings : List Term → Type 0

@@ -1,6 +1,6 @@
 //! What the rules keep. The functions do nothing: their contracts are what is proved.
 
-ghost use Rattle.str_theory.specs.Laws.{RulesKeepTruth};
+ghost use Rattle.str_theory.specs.Laws.{ChainsOpen, RulesKeepTruth};
 ghost use Rattle.str_theory.specs.Steps.{RewritingsHold};
 
 use math_terms::{equality_is_sameness, same_terms_are_equal, strings_have_kinds};
@@ -22,3 +22,9 @@ pub fn rewritings_hold()
 {
     rules_keep_truth();
 }
+
+/// What the parts of a term's chain are.
+#[tactic(auto, using(crate::proofs::ChainValues::chains_open))]
+pub fn chains_open()
+    ensures { ChainsOpen }
+{}

@@ -3,4 +3,4 @@
 
 mod laws;
 
-pub use laws::{rewritings_hold, rules_keep_truth};
+pub use laws::{chains_open, rewritings_hold, rules_keep_truth};

@@ -10,7 +10,7 @@ use Rattle.math_terms.specs.declared.descriptor.Sort.TheOpen.{Sort-F}
 use Rattle.math_terms.specs.declared.descriptor.Sort.TheViews.{roll-Sort, out-Sort, out-roll-Sort}
 use Rattle.math_terms.specs.declared.descriptor.Sort.TheFolds.{fold-roll-Sort}
 use Rattle.math_terms.specs.Kinds.{forget, forget_step, sort_of_desc, sort_of_shape_step, sort_of_desc_step}
-use Rattle.math_terms.specs.Sorts.{z, b, any, str, tup}
+use Rattle.math_terms.specs.Sorts.{z, b, any, is_str, str, str_form, tup}
 use Rattle.term_cells.specs.KindShown.{is_other, kind_of_desc}
 
 list_map-map : {X Y W : Type 0} (f : X → Y) (g : Y → W) (xs : List X) → map g (map f xs) ≡ map (λ x. g (f x)) xs
@@ -53,14 +53,14 @@ tuple_desc d ds e =
 str_is : (s : Sort) → forget (roll-Sort (Sort-F.Str s)) ≡ str any
 str_is s = fold-roll-Sort Sort forget_step (Sort-F.Str s)
 
-pub other_str : (d e : Desc) → d.shape ≡ Str e → is_other (out-Sort (kind_of_desc d)) ≡ true
+pub string_desc : (d e : Desc) → d.shape ≡ Str e → is_str (kind_of_desc d) ≡ true
 unfolding sort_of_shape
-other_str d e f =
-    ap (λ s. is_other (out-Sort s)) (by_shape d (Str e) f
+string_desc d e f =
+    ap is_str (by_shape d (Str e) f
     ∙ ap (λ s. forget (fold-Shape Sort Sort sort_of_shape_step sort_of_desc_step s)) (sym (rolls-Str e))
     ∙ ap forget (fold-roll-Shape Sort Sort sort_of_shape_step sort_of_desc_step (Shape-F.Str e))
     ∙ fold-roll-Sort Sort forget_step (Sort-F.Str (sort_of_desc e)))
-    ∙ ap is_other (out-roll-Sort (Sort-F.Str any))
+    ∙ ap str_form (out-roll-Sort (Sort-F.Str any))
 
 pub other_param : (d : Desc) (k : ℕ) → d.shape ≡ Param k → is_other (out-Sort (kind_of_desc d)) ≡ true
 unfolding sort_of_shape

@@ -13,10 +13,10 @@ use Rattle.math_terms.specs.declared.term.Term.TheViews.{out-Term}
 use Rattle.math_terms.specs.declared.term.Term.TheFolds.{map-Term, fold_out-Term}
 use Rattle.math_terms.specs.Heads.{children, form, own}
 use Rattle.math_terms.specs.Kinds.{forget_option, kind, kind_step, or_any, sort_of_desc}
-use Rattle.math_terms.specs.Sorts.{z, b, any, str, tup, part_form, sort_of_var}
+use Rattle.math_terms.specs.Sorts.{z, b, any, is_str, str, str_form, tup, part_form, sort_of_var}
 use Rattle.term_cells.specs.declared.cell.Cell.{Cell}
 use Rattle.term_cells.specs.declared.kind.Kind.{Kind}
-use Rattle.term_cells.specs.declared.kind.Kind.TheVariants.{Number, Truth, Parts, Descs, Other}
+use Rattle.term_cells.specs.declared.kind.Kind.TheVariants.{Number, Truth, Text, Parts, Descs, Other}
 use Rattle.term_cells.specs.KindShown.{PartAt, PartsBelow, Shows, ShowsIn, is_number_form, is_truth_form, is_other, kind_of_desc, sorts_of_vars}
 use Rattle.term_cells.specs.Standing.{few_stand, parts_stand, stands, stands_below}
 use Rattle.term_cells.proofs.Apart.{below_parts}
@@ -50,17 +50,17 @@ truth_step sorts (Term-F.Implies a b) h = refl
 truth_step sorts (Term-F.Initial k a) h = refl
 truth_step sorts x h = cc
 
-other_step : (sorts : List Sort) (x : Term-F Sort) → is_number_form (form x) ≡ false → is_truth_form (form x) ≡ false → (form x ≡ 16 → ⊥) → (form x ≡ 4 → ⊥) → (form x ≡ 17 → ⊥) →
+string_step : (sorts : List Sort) (x : Term-F Sort) → is_number_form (form x) ≡ false → is_truth_form (form x) ≡ false → (form x ≡ 16 → ⊥) → (form x ≡ 4 → ⊥) → (form x ≡ 17 → ⊥) →
     kind_step sorts x ≡ str any
-other_step sorts (Term-F.Var k) h i f g k' = absurd (g refl)
-other_step sorts Term-F.Empty h i f g k' = refl
-other_step sorts (Term-F.Single a) h i f g k' = refl
-other_step sorts (Term-F.Cat a b) h i f g k' = refl
-other_step sorts (Term-F.Reverse a) h i f g k' = refl
-other_step sorts (Term-F.Part l j a) h i f g k' = refl
-other_step sorts (Term-F.Tuple parts) h i f g k' = absurd (f refl)
-other_step sorts (Term-F.Proj k a) h i f g k' = absurd (k' refl)
-other_step sorts x h i f g k' = cc
+string_step sorts (Term-F.Var k) h i f g k' = absurd (g refl)
+string_step sorts Term-F.Empty h i f g k' = refl
+string_step sorts (Term-F.Single a) h i f g k' = refl
+string_step sorts (Term-F.Cat a b) h i f g k' = refl
+string_step sorts (Term-F.Reverse a) h i f g k' = refl
+string_step sorts (Term-F.Part l j a) h i f g k' = refl
+string_step sorts (Term-F.Tuple parts) h i f g k' = absurd (f refl)
+string_step sorts (Term-F.Proj k a) h i f g k' = absurd (k' refl)
+string_step sorts x h i f g k' = cc
 
 kind_out : (sorts : List Sort) (t : Term) → kind sorts t ≡ kind_step sorts (map-Term Term Sort (kind sorts) (out-Term t))
 kind_out sorts t = fold_out-Term Sort (kind_step sorts) t
@@ -110,14 +110,14 @@ module _ (cells : List Cell) (sorts : List Sort) (t : Term) (p : ℕ) (c : Cell)
   unfolding mapped
   truth_kind e = kind_out sorts t ∙ truth_step sorts mapped (ap is_truth_form mapped_form ∙ e)
 
-  pub other_kind : is_number_form c.form ≡ false → is_truth_form c.form ≡ false → (c.form ≡ 16 → ⊥) → (c.form ≡ 4 → ⊥) → (c.form ≡ 17 → ⊥) → is_other (out-Sort (kind sorts t)) ≡ true
+  pub string_kind : is_number_form c.form ≡ false → is_truth_form c.form ≡ false → (c.form ≡ 16 → ⊥) → (c.form ≡ 4 → ⊥) → (c.form ≡ 17 → ⊥) → is_str (kind sorts t) ≡ true
   unfolding mapped
-  other_kind e f g i j =
+  string_kind e f g i j =
       let same : kind sorts t ≡ str any =
       kind_out sorts t
-      ∙ other_step sorts mapped (ap is_number_form mapped_form ∙ e) (ap is_truth_form mapped_form ∙ f)
+      ∙ string_step sorts mapped (ap is_number_form mapped_form ∙ e) (ap is_truth_form mapped_form ∙ f)
       (λ k. g (sym mapped_form ∙ k)) (λ k. i (sym mapped_form ∙ k)) (λ k. j (sym mapped_form ∙ k)) in
-      ap (λ s. is_other (out-Sort s)) same ∙ ap is_other (out-roll-Sort (Sort-F.Str any))
+      ap is_str same ∙ ap str_form (out-roll-Sort (Sort-F.Str any))
 
   pub tuple_kind : c.form ≡ 16 → kind sorts t ≡ tup (map (kind sorts) (children (out-Term t)))
   tuple_kind e =
@@ -154,6 +154,7 @@ module _ (cells : List Cell) (sorts : List Sort) (t : Term) (p : ℕ) (c : Cell)
 pub shows_in : (cells : List Cell) (sorts : List Sort) (k : Kind) (s : Sort) → ShowsIn k s → Shows cells sorts k s
 shows_in cells sorts Number s h = h
 shows_in cells sorts Truth s h = h
+shows_in cells sorts Text s h = h
 shows_in cells sorts (Parts at) s h = absurd h
 shows_in cells sorts (Descs ds) s h = h
 shows_in cells sorts Other s h = h
@@ -161,6 +162,7 @@ shows_in cells sorts Other s h = h
 pub in_below : (k : Kind) (s : Sort) (p : ℕ) → ShowsIn k s → PartsBelow p k
 in_below Number s p h = tt
 in_below Truth s p h = tt
+in_below Text s p h = tt
 in_below (Parts at) s p h = absurd h
 in_below (Descs ds) s p h = tt
 in_below Other s p h = tt
@@ -231,6 +233,7 @@ no_tuple_shown cells sorts Number s f g h ss e =
 no_tuple_shown cells sorts Truth s f g h ss e =
     let same : Sort-F.B ≡ Sort-F.Tup ss = sym (ap out-Sort h ∙ out-roll-Sort Sort-F.B) ∙ e in
     cc
+no_tuple_shown cells sorts Text s f g h ss e = false≢true (ap str_form (sym e) ∙ h)
 no_tuple_shown cells sorts (Parts at) s f g h ss e = f at refl
 no_tuple_shown cells sorts (Descs ds) s f g h ss e = g ds refl
 no_tuple_shown cells sorts Other s f g h ss e = false≢true (ap is_other (sym e) ∙ h)
@@ -246,6 +249,7 @@ no_number cells sorts Number s f h e = f refl
 no_number cells sorts Truth s f h e =
     let same : Sort-F.B ≡ Sort-F.Z = sym (ap out-Sort h ∙ out-roll-Sort Sort-F.B) ∙ ap out-Sort e ∙ out-roll-Sort Sort-F.Z in
     cc
+no_number cells sorts Text s f h e = false≢true (sym (ap str_form (ap out-Sort e ∙ out-roll-Sort Sort-F.Z)) ∙ h)
 no_number cells sorts (Parts at) s f h e =
     let same : Sort-F.Tup (map (kind sorts) h.0) ≡ Sort-F.Z = sym (ap out-Sort h.1 ∙ out-roll-Sort (Sort-F.Tup (map (kind sorts) h.0))) ∙ ap out-Sort e ∙ out-roll-Sort Sort-F.Z in
     cc
@@ -259,6 +263,7 @@ no_truth cells sorts Number s f h e =
     let same : Sort-F.Z ≡ Sort-F.B = sym (ap out-Sort h ∙ out-roll-Sort Sort-F.Z) ∙ ap out-Sort e ∙ out-roll-Sort Sort-F.B in
     cc
 no_truth cells sorts Truth s f h e = f refl
+no_truth cells sorts Text s f h e = false≢true (sym (ap str_form (ap out-Sort e ∙ out-roll-Sort Sort-F.B)) ∙ h)
 no_truth cells sorts (Parts at) s f h e =
     let same : Sort-F.Tup (map (kind sorts) h.0) ≡ Sort-F.B = sym (ap out-Sort h.1 ∙ out-roll-Sort (Sort-F.Tup (map (kind sorts) h.0))) ∙ ap out-Sort e ∙ out-roll-Sort Sort-F.B in
     cc
@@ -266,6 +271,22 @@ no_truth cells sorts (Descs ds) s f h e =
     let same : Sort-F.Tup (map kind_of_desc ds.now) ≡ Sort-F.B = sym (ap out-Sort h ∙ out-roll-Sort (Sort-F.Tup (map kind_of_desc ds.now))) ∙ ap out-Sort e ∙ out-roll-Sort Sort-F.B in
     cc
 no_truth cells sorts Other s f h e = false≢true (sym (ap is_other (ap out-Sort e ∙ out-roll-Sort Sort-F.B)) ∙ h)
+
+no_str_form : (x : Sort-F Sort) → is_other x ≡ true → false ≡ str_form x
+no_str_form Sort-F.Z h = refl
+no_str_form Sort-F.B h = refl
+no_str_form (Sort-F.Str s) h = absurd (false≢true h)
+no_str_form (Sort-F.Tup ss) h = refl
+no_str_form (Sort-F.Param k) h = refl
+no_str_form Sort-F.Any h = refl
+
+pub no_string : (cells : List Cell) (sorts : List Sort) (r : Kind) (s : Sort) → (r ≡ Text → ⊥) → Shows cells sorts r s → false ≡ is_str s
+no_string cells sorts Number s f h = sym (ap str_form (ap out-Sort h ∙ out-roll-Sort Sort-F.Z))
+no_string cells sorts Truth s f h = sym (ap str_form (ap out-Sort h ∙ out-roll-Sort Sort-F.B))
+no_string cells sorts Text s f h = absurd (f refl)
+no_string cells sorts (Parts at) s f h = sym (ap str_form (ap out-Sort h.1 ∙ out-roll-Sort (Sort-F.Tup (map (kind sorts) h.0))))
+no_string cells sorts (Descs ds) s f h = sym (ap str_form (ap out-Sort h ∙ out-roll-Sort (Sort-F.Tup (map kind_of_desc ds.now))))
+no_string cells sorts Other s f h = no_str_form (out-Sort s) h
 
 -- the parts of a list one after another
 module _ (cells : List Cell) (p limit : ℕ) (c : Cell) (at_p : slice_get cells p ≡ Some c) where

@@ -10,6 +10,7 @@ pub mod Apart
 pub mod Kinded
 pub mod Laid
 pub mod Lasting
+pub mod Listing
 pub mod Loading
 pub mod Openings
 pub mod PieceOf

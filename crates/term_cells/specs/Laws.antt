@@ -1,5 +1,5 @@
 -- Laws of standing, each proved as the contract of a function of its own.
-use Rattle.std.specs.Prelude.{◌≡◌, ℕ, ◌<◌, ◌==◌, pos, unsigned_abs, Bool, true, not, ◌||◌, List, [], ◌∷◌, ◌++◌, length, take, Some, slice_get}
+use Rattle.std.specs.Prelude.{◌≡◌, ℕ, ◌<◌, ◌==◌, pos, unsigned_abs, Bool, true, not, ◌||◌, List, [], ◌∷◌, ◌++◌, length, map, take, Some, slice_get}
 use Rattle.std.specs.Ordering.{int_eq}
 use Rattle.math_terms.specs.declared.term.Term.{Term}
 use Rattle.math_terms.specs.declared.term.Term.TheOpen.{Term-F}
@@ -8,7 +8,7 @@ use Rattle.math_terms.specs.declared.term.Term.TheFolds.{map-Term}
 use Rattle.math_terms.specs.Heads.{form, own}
 use Rattle.term_cells.specs.declared.cell.Cell.{Cell}
 use Rattle.term_cells.specs.Growing.{HasHead}
-use Rattle.term_cells.specs.Standing.{children_stand, stands, stands_below}
+use Rattle.term_cells.specs.Standing.{children_stand, end_form, link_form, parts_stand, stands, stands_below}
 
 -- What stands at a place stays there, whatever cells come after.
 abbrev pub StandingLasts : Type 0
@@ -87,3 +87,19 @@ pub record LeavesOpen : Type 0 where
 abbrev pub QuotientStands : Type 0
 QuotientStands =
     (cells : List Cell) (t u : Term) (at : ℕ) (c : Cell) → slice_get cells at ≡ Some c → stands cells (roll-Term (Term-F.Mod t u)) at ≡ true → (c.c < at) × (stands cells (roll-Term (Term-F.Div t u)) c.c ≡ true)
+
+-- the cell tells where the first part and the others stand, or that there are none
+abbrev pub ListAt : List Cell → List Term → Cell → ℕ → Type 0
+ListAt cells [] c at = c.form ≡ end_form
+ListAt cells (t ∷ ts) c at =
+    (c.form ≡ link_form) × (c.a < at) × (stands cells t c.a ≡ true) × (c.b < at) × (parts_stand cells (map (stands cells) ts) c.b at ≡ true)
+
+-- A list of parts that stands at a place is told by the cell there.
+abbrev pub PartsOpen : Type 0
+PartsOpen =
+    (cells : List Cell) (ts : List Term) (at limit : ℕ) → parts_stand cells (map (stands cells) ts) at limit ≡ true → (c : Cell) × (slice_get cells at ≡ Some c) × ListAt cells ts c at
+
+-- It stays there, whatever cells come after.
+abbrev pub PartsLast : Type 0
+PartsLast =
+    (cells more : List Cell) (ts : List Term) (at limit : ℕ) → parts_stand cells (map (stands cells) ts) at limit ≡ true → parts_stand (cells ++ more) (map (stands (cells ++ more)) ts) at limit ≡ true

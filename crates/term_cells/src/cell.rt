@@ -66,7 +66,7 @@ impl Cell {
     }
 
     /// A part before the rest of a list.
-    pub(crate) fn link(part: u32, rest: u32) -> Cell
+    pub fn link(part: u32, rest: u32) -> Cell
         ensures { result ≡ record { form = link_form; own = pos 0; a = part; b = rest; c = 0 } }
     {
         Cell {
@@ -79,7 +79,7 @@ impl Cell {
     }
 
     /// Whether the cell is a part before the rest of a list.
-    pub(crate) fn is_link(self) -> bool
+    pub fn is_link(self) -> bool
         ensures { result ≡ (self.form == link_form) }
     {
         self.form == LINK

@@ -5,18 +5,19 @@ ghost use Rattle.math_terms.specs.declared.term.Term.{Term};
 ghost use Rattle.math_terms.specs.declared.descriptor.Sort.TheViews.{out-Sort};
 ghost use Rattle.math_terms.specs.Forms.{form_number};
 ghost use Rattle.math_terms.specs.Kinds.{forget_option, kind, or_any, sort_of_desc};
-ghost use Rattle.math_terms.specs.Sorts.{z, b, part_form, sort_of_var};
+ghost use Rattle.math_terms.specs.Sorts.{z, b, is_str, part_form, sort_of_var};
 ghost use Rattle.term_cells.specs.KindShown.{PartAt, PartsBelow, Shows, ShowsIn, is_number_form, is_truth_form, kind_of_desc, sorts_of_vars};
 ghost use Rattle.term_cells.specs.Standing.{parts_stand, stands, stands_below};
 
 use crate::cells::Cells;
 use math_terms::{Desc, Form, Name, Shape};
 
-/// A kind: that of numbers, of truth values, of tuples, by the place of the parts or by their descriptors, or any other.
+/// A kind: that of numbers, of truth values, of strings, of tuples, by the place of the parts or by their descriptors, or any other.
 #[derive(Clone, Copy)]
 pub(crate) enum Kind<'a> {
     Number,
     Truth,
+    Text,
     Parts(u32),
     Descs(&'a [Desc]),
     Other,
@@ -39,6 +40,16 @@ impl Cells {
     {
         match self.kind_of(p, vars) {
             Kind::Truth => true,
+            _ => false,
+        }
+    }
+
+    /// Whether it is of the kind of strings.
+    pub fn is_string(&self, p: u32, vars: &[(Name, Desc)]) -> bool
+        ensures { (t : Term) → stands self.now.0 t p ≡ true → result ≡ is_str (kind (sorts_of_vars vars.now) t) }
+    {
+        match self.kind_of(p, vars) {
+            Kind::Text => true,
             _ => false,
         }
     }
@@ -74,7 +85,7 @@ impl Cells {
         if cell.is(Form::Proj) {
             return self.kind_of_part(p, cell.a, cell.own, vars);
         }
-        Kind::Other
+        Kind::Text
     }
 
     /// The kind of part k, counted from 0, of the term at place p, which is below a limit.
@@ -167,7 +178,8 @@ fn kind_in(d: &Desc) -> Kind<'_>
         Shape::Z => Kind::Number,
         Shape::B => Kind::Truth,
         Shape::Tup(parts) => Kind::Descs(parts.as_slice()),
-        Shape::Str(_) | Shape::Param(_) => Kind::Other,
+        Shape::Str(_) => Kind::Text,
+        Shape::Param(_) => Kind::Other,
     }
 }
 

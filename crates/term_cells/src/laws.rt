@@ -1,6 +1,6 @@
 //! Laws of the definitions. The functions do nothing: their contracts are what is proved.
 
-ghost use Rattle.term_cells.specs.Laws.{LeavesOpen, NodeStandsNext, OneOpens, QuotientStands, StandingLasts, StandingNeeds, StandingOpens, StandingTells, StandsBelowNext, TwoOpens};
+ghost use Rattle.term_cells.specs.Laws.{LeavesOpen, NodeStandsNext, OneOpens, PartsLast, PartsOpen, QuotientStands, StandingLasts, StandingNeeds, StandingOpens, StandingTells, StandsBelowNext, TwoOpens};
 
 /// What stands at a place stays there when cells are added.
 #[tactic(auto, using(crate::proofs::Lasting::stands_append))]
@@ -59,4 +59,16 @@ pub fn leaves_open()
 /// Beside each remainder stands the quotient.
 pub fn quotient_stands()
     ensures { QuotientStands }
+{}
+
+/// A cell tells the list of parts at its place.
+#[tactic(auto, using(crate::proofs::Listing::list_opens))]
+pub fn parts_open()
+    ensures { PartsOpen }
+{}
+
+/// A list of parts stays at its place when cells are added.
+#[tactic(auto, using(crate::proofs::Listing::parts_append))]
+pub fn parts_last()
+    ensures { PartsLast }
 {}

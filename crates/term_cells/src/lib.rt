@@ -19,6 +19,6 @@ pub use before::Scratch;
 pub use cell::Cell;
 pub use cells::Cells;
 pub use laws::{
-    leaves_open, node_stands_next, one_opens, quotient_stands, standing_lasts, standing_needs,
-    standing_opens, standing_tells, stands_below_next, two_opens,
+    leaves_open, node_stands_next, one_opens, parts_last, parts_open, quotient_stands,
+    standing_lasts, standing_needs, standing_opens, standing_tells, stands_below_next, two_opens,
 };

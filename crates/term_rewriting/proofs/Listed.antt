@@ -1,11 +1,12 @@
 -- Lists of parts in cells, and terms that are put after others.
-use Rattle.std.proofs.Common.{◌≡◌, ◌≢◌, ◌∙◌, sym, ap, refl, subst, ℕ, ltb, ◌==◌, Bool, true, ◌&&◌, List, [], ◌∷◌, ◌++◌, map, Some, slice_get, Result, Ok, Err, IfOk, arith}
-use Rattle.std.proofs.lemmas.Bool.{and_parts, eqb-true}
+use Rattle.std.proofs.Common.{◌≡◌, ◌∙◌, sym, ap, refl, subst, ℕ, ltb, ◌==◌, true, false, List, [], ◌∷◌, ◌++◌, map, Some, slice_get, Result, Ok, Err, IfOk, arith}
+use Rattle.std.proofs.lemmas.Bool.{and_from, eqb-false, eqb-true, lt-ltb}
 use Rattle.std.proofs.lemmas.List.{append-nil, append_assoc}
 use Rattle.math_terms.specs.declared.term.Term.{Term}
 use Rattle.term_cells.specs.declared.cell.Cell.{Cell}
+use Rattle.term_cells.specs.Laws.{ListAt, PartsOpen}
 use Rattle.term_cells.specs.Placed.{AllStand}
-use Rattle.term_cells.specs.Standing.{parts_stand, stands, stands_below, with_cell}
+use Rattle.term_cells.specs.Standing.{parts_stand, stands, stands_below}
 
 -- the first part and the others
 pub record Linked (cells : List Cell) (ts : List Term) (c : Cell) (at : ℕ) : Type 0 where
@@ -15,32 +16,32 @@ pub record Linked (cells : List Cell) (ts : List Term) (c : Cell) (at : ℕ) : T
   pub first_below : stands_below (stands cells first) c.a at ≡ true
   pub rest_stands : parts_stand cells (map (stands cells) rest) c.b at ≡ true
 
-module _ (cells : List Cell) (at limit : ℕ) (c : Cell) (is : slice_get cells at ≡ Some c) where
-  tested : (test : Cell → Bool) → with_cell (slice_get cells at) test ≡ true → test c ≡ true
-  tested test h = ap (λ o. with_cell o test) (sym is) ∙ h
+same_cell : (c d : Cell) → Some c ≡ Some d → c ≡ d
+same_cell c d e = cc
 
-  link_test : (t : Term) (ts : List Term) → parts_stand cells (map (stands cells) (t ∷ ts)) at limit ≡ true
-      → ((c.form == 27) ≡ true) × (stands_below (stands cells t) c.a at ≡ true) × (parts_stand cells (map (stands cells) ts) c.b at ≡ true)
-  link_test t ts h =
-      let test : Cell → Bool = λ d. (d.form == 27) && stands_below (stands cells t) d.a at && parts_stand cells (map (stands cells) ts) d.b at in
-      let q = and_parts ((c.form == 27) && stands_below (stands cells t) c.a at) (parts_stand cells (map (stands cells) ts) c.b at) (tested test (and_parts (ltb at limit) (with_cell (slice_get cells at) test) h).1) in
-      let r = and_parts (c.form == 27) (stands_below (stands cells t) c.a at) q.0 in
-      (r.0, r.1, q.1)
+module _ (law : PartsOpen) (cells : List Cell) (at limit : ℕ) (c : Cell) (is : slice_get cells at ≡ Some c) where
+  told : (ts : List Term) → parts_stand cells (map (stands cells) ts) at limit ≡ true → ListAt cells ts c at
+  told ts h =
+      let o = law cells ts at limit h in
+      subst (λ d. ListAt cells ts d at) (same_cell o.0 c (sym o.1 ∙ is)) o.2
 
-  no_parts : c.form ≢ 27 → (ts : List Term) → parts_stand cells (map (stands cells) ts) at limit ≡ true → ts ≡ []
-  no_parts e [] h = refl
-  no_parts e (t ∷ ts) h = absurd (e (eqb-true c.form 27 (link_test t ts h).0))
+  no_parts : false ≡ (c.form == 27) → (ts : List Term) → parts_stand cells (map (stands cells) ts) at limit ≡ true → ts ≡ []
+  no_parts e ts h = by_list ts (told ts h)
+    where
+      by_list : (us : List Term) → ListAt cells us c at → us ≡ []
+      by_list [] l = refl
+      by_list (u ∷ us) l = absurd (eqb-false c.form 27 (sym e) l.0)
 
-  pub linked : c.form ≡ 27 → (ts : List Term) → parts_stand cells (map (stands cells) ts) at limit ≡ true → Linked cells ts c at
-  linked e [] h =
-      let test : Cell → Bool = λ d. d.form == 26 in
-      let end : c.form ≡ 26 = eqb-true c.form 26 (tested test (and_parts (ltb at limit) (with_cell (slice_get cells at) test) h).1) in
-      absurd (omega (arith, end, e))
-  linked e (t ∷ ts) h =
-      let l = link_test t ts h in
-      record { first = t; rest = ts; parts_are = refl; first_below = l.1; rest_stands = l.2 }
+  pub linked : true ≡ (c.form == 27) → (ts : List Term) → parts_stand cells (map (stands cells) ts) at limit ≡ true → Linked cells ts c at
+  linked e ts h = by_list ts (told ts h)
+    where
+      by_list : (us : List Term) → ListAt cells us c at → Linked cells us c at
+      by_list [] l =
+          let other : c.form ≡ 27 = eqb-true c.form 27 (sym e) in
+          absurd (omega (arith, l, other))
+      by_list (u ∷ us) l = record { first = u; rest = us; parts_are = refl; first_below = and_from (ltb c.a at) (stands cells u c.a) (lt-ltb c.a at l.1) l.2; rest_stands = l.4 }
 
-  pub nothing_put : c.form ≢ 27 → (out ts : List Term) → parts_stand cells (map (stands cells) ts) at limit ≡ true → out ≡ out ++ ts
+  pub nothing_put : false ≡ (c.form == 27) → (out ts : List Term) → parts_stand cells (map (stands cells) ts) at limit ≡ true → out ≡ out ++ ts
   nothing_put e out ts h = sym (append-nil out) ∙ ap (λ us. out ++ us) (sym (no_parts e ts h))
 
 -- one term and then others are put after what was there

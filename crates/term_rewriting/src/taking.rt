@@ -8,10 +8,7 @@ ghost use Rattle.term_cells.specs.Standing.{parts_stand, stands, stands_below};
 use crate::node::{Node, node_at};
 use math_terms::{Boxed, Items, NoMemory, Term, both, boxed};
 use std::alloc::Global;
-use term_cells::Cells;
-
-/// What stands in place of a form's number at a part before others.
-const LINK: u8 = 27;
+use term_cells::{Cells, parts_open};
 
 /// The term at a place. An error also where no term stands there that has its numbers within 32 bits.
 #[cycle(take)]
@@ -107,13 +104,14 @@ fn take_onto(
 ) -> Result<(), NoMemory>
     ensures { (ts : List Term) → parts_stand cells.now.0 (map (stands cells.now.0) ts) list limit ≡ true → IfOk result (λ u. out.new ≡ out.old ++ ts) }
 {
+    parts_open();
     if list >= limit {
         return Err(NoMemory);
     }
     let Some(cell) = cells.at(list) else {
         return Err(NoMemory);
     };
-    if cell.form != LINK {
+    if !cell.is_link() {
         return Ok(());
     }
     out.push(take_below(alloc, cells, list, cell.a)?)?;

@@ -14,8 +14,8 @@ use Rattle.cell_rules.proofs.rewriting.Rule.+rewrite.Goals as goal
 pub returns-in_default-clause-exact : goal.returns-in_default-clause-exact
 returns-in_default-clause-exact m c = λ f t fact h answered.
     let vars = sorts_of_vars c.args.vars.now in
-    subst (λ ps. GivenStands c.apply.new.cells.0 (given_at ps (rule vars f c.args.self.number) t) c.apply.result) (sym (nil_from_length c.args.position.now c.in_default.ensures.cases))
-    (c.apply.ensures.exact f t fact h answered vars)
+    subst (λ ps. GivenStands c.at_node.new.cells.0 (given_at ps (rule vars f c.args.self.number) t) c.at_node.result) (sym (nil_from_length c.args.position.now c.in_default.ensures.cases))
+    (c.at_node.ensures.exact f t fact h answered)
 
 pub returns-in_err-inner-clause-grown : goal.returns-in_err-inner-clause-grown
 returns-in_err-inner-clause-grown m c = λ t h.

@@ -8,7 +8,7 @@ use Rattle.term_cells.specs.Standing.{stands}
 use Rattle.term_cells.proofs.Apart.{below_parts, holds, fails}
 use Rattle.term_cells.proofs.Comparing.{tuple_below}
 use Rattle.term_cells.proofs.PieceOf.{no_term}
-use Rattle.term_cells.proofs.Kinded.{tuple_kind, tuple_parts, other_kind, variable_kind, projection_kind, shows_in, part_shows, no_part, descs_show, plain_part}
+use Rattle.term_cells.proofs.Kinded.{tuple_kind, tuple_parts, string_kind, variable_kind, projection_kind, shows_in, part_shows, no_part, descs_show, plain_part}
 use Rattle.term_cells.proofs.cells.Cells.+kind.Goals as goal
 
 pub kind_of-returns-in_default-node_form-clause-shown : goal.kind_of-returns-in_default-node_form-clause-shown
@@ -48,7 +48,7 @@ kind_of-returns-then-is-3-clause-shown m c = λ t h.
 
 pub kind_of-returns-clause-shown : goal.kind_of-returns-clause-shown
 kind_of-returns-clause-shown m c = λ t h.
-    other_kind c.args.self.now.0 (sorts_of_vars c.args.vars.now) t c.args.p c.in-Some.cell (sym c.in-Some.ensures) h
+    string_kind c.args.self.now.0 (sorts_of_vars c.args.vars.now) t c.args.p c.in-Some.cell (sym c.in-Some.ensures) h
     (ap is_number_form c.in-Some-node_form.ensures.numbered ∙ sym c.if-is_number_form.ensures) (ap is_truth_form c.in-Some-node_form.ensures.numbered ∙ sym c.if-is_truth_form.ensures) (fails c.in-Some.cell.form 16 c.if-is.ensures) (fails c.in-Some.cell.form 4 c.if-is-2.ensures) (fails c.in-Some.cell.form 17 c.if-is-3.ensures)
 
 pub kind_of_part-returns-in-Some-part-clause-shown : goal.kind_of_part-returns-in-Some-part-clause-shown
