@@ -7,4 +7,4 @@ mod table;
 mod uses;
 
 pub use error::NameError;
-pub use table::{Table, name_of};
+pub use table::{Table, is_array_template, name_of};

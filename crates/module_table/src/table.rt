@@ -116,7 +116,7 @@ pub fn name_of(component: &Component) -> &Name
 
 /// Whether this is the name of the concept of arrays, which is there without a component.
 #[tactic(auto, unfolding(crate::specs::Tables::is_array_template))]
-pub(crate) fn is_array_template(name: &Name) -> bool
+pub fn is_array_template(name: &Name) -> bool
     ensures { result ≡ is_array_template name.now }
 {
     name.bytes() == ARRAY_TEMPLATE

@@ -9,6 +9,7 @@ ghost use Rattle.type_inst.specs.Descriptors as spec;
 
 use crate::assertion::{Meaning, term_of};
 use crate::descriptor::desc_with;
+use crate::formals::{add_numbers, after, given_numbers, types_of, whole};
 use crate::model::{model, part_names};
 use crate::types::{BoundFamily, FormalArg};
 use math_terms::{Desc, Name, NoMemory, Term, both, boxed, filled, with};
@@ -213,68 +214,6 @@ fn is_true(t: &Term) -> bool
     }
 }
 
-/// The type formals with their numbers.
-fn types_of(alloc: Global, formals: &[(Name, FormalArg)]) -> Result<Items<(Name, u32)>, NoMemory>
-    ensures { IfOk result (λ ts. ts ≡ spec.types_from 0 formals.now) }
-{
-    let mut out = Items::new(alloc);
-    let mut next = 0;
-    for formal in formals {
-        next = add_type(alloc, &mut out, next, &formal.0, &formal.1)?;
-    }
-    Ok(out)
-}
-
-/// A formal behind the others, where it is a type; the answer is the number of the next one.
-fn add_type(
-    alloc: Global,
-    out: &mut Items<(Name, u32)>,
-    next: u32,
-    name: &Name,
-    arg: &FormalArg,
-) -> Result<u32, NoMemory>
-    ensures added { OnOk result (out.new ≡ out.old ++ spec.type_entry next name.now arg.now) }
-    ensures next { IfOk result (λ k. k ≡ next + spec.type_count arg.now) }
-{
-    match arg {
-        FormalArg::Type(_) => {
-            out.push((name.copy(alloc)?, next))?;
-            after(next)
-        }
-        FormalArg::Number(_) => Ok(next),
-    }
-}
-
-/// The number after this one. More formals than can be numbered do not fit into memory.
-fn after(number: u32) -> Result<u32, NoMemory>
-    ensures { IfOk result (λ n. n ≡ number + 1) }
-{
-    match number.checked_add(1) {
-        Some(next) => Ok(next),
-        None => Err(NoMemory),
-    }
-}
-
-/// What is given for the Integer formals.
-fn given_numbers(alloc: Global, formals: &[(Name, FormalArg)]) -> Result<Items<Term>, NoMemory>
-    ensures { IfOk result (λ ts. ts ≡ spec.given_numbers formals.now) }
-{
-    let mut out = Items::new(alloc);
-    for formal in formals {
-        add_given(alloc, &mut out, &formal.1)?;
-    }
-    Ok(out)
-}
-
-fn add_given(alloc: Global, out: &mut Items<Term>, arg: &FormalArg) -> Result<(), NoMemory>
-    ensures { OnOk result (out.new ≡ out.old ++ spec.given_number arg.now) }
-{
-    match arg {
-        FormalArg::Type(_) => Ok(()),
-        FormalArg::Number(n) => Ok(out.push(n.copy(alloc)?)?),
-    }
-}
-
 /// What the names of the clauses mean, the exemplar before the formals.
 fn meanings_of(
     alloc: Global,
@@ -286,20 +225,8 @@ fn meanings_of(
     let mut out = Items::new(alloc);
     out.push(whole(alloc, &family.exemplar, Term::Var(0))?)?;
     add_parts(alloc, &mut out, &family.exemplar, part_names(&family.model))?;
-    add_numbers(alloc, &mut out, formals)?;
+    add_numbers(alloc, &mut out, 1, formals)?;
     Ok(out)
-}
-
-fn whole(alloc: Global, name: &Name, term: Term) -> Result<Meaning, NoMemory>
-    ensures { IfOk result (λ m. m ≡ spec.whole name.now term) }
-{
-    let (name, term) = with(name.copy(alloc), term)?;
-    Ok(Meaning {
-        old: false,
-        name,
-        part: None,
-        term,
-    })
 }
 
 fn part_of(alloc: Global, name: &Name, part: &Name, k: u32) -> Result<Meaning, NoMemory>
@@ -329,38 +256,4 @@ fn add_parts(
         next = after(next)?;
     }
     Ok(())
-}
-
-fn add_numbers(
-    alloc: Global,
-    out: &mut Items<Meaning>,
-    formals: &[(Name, FormalArg)],
-) -> Result<(), NoMemory>
-    ensures { OnOk result (out.new ≡ out.old ++ spec.numbers_from 1 formals.now) }
-{
-    let mut next = 1;
-    for formal in formals {
-        next = add_number(alloc, out, next, &formal.0, &formal.1)?;
-    }
-    Ok(())
-}
-
-/// A formal behind the others, where it is an Integer; the answer is the number of the next one.
-fn add_number(
-    alloc: Global,
-    out: &mut Items<Meaning>,
-    next: u32,
-    name: &Name,
-    arg: &FormalArg,
-) -> Result<u32, NoMemory>
-    ensures added { OnOk result (out.new ≡ out.old ++ spec.number_entry next name.now arg.now) }
-    ensures next { IfOk result (λ k. k ≡ next + spec.number_count arg.now) }
-{
-    match arg {
-        FormalArg::Type(_) => Ok(next),
-        FormalArg::Number(_) => {
-            out.push(whole(alloc, name, Term::Var(next))?)?;
-            after(next)
-        }
-    }
 }

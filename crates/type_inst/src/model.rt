@@ -118,8 +118,8 @@ fn numbered(alloc: Global, k: u32, descs: &[Desc]) -> Result<Desc, NoMemory>
     }
 }
 
-/// The names of the parts of a model that is a product.
-pub(crate) fn part_names(model: &MType) -> &[Name]
+/// The names of the parts of a model that is a product; none of any other.
+pub fn part_names(model: &MType) -> &[Name]
     ensures { result.now ≡ spec.part_names model.now.parts }
 {
     match model.parts.as_slice().last() {

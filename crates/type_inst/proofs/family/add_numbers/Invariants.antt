@@ -1,6 +1,0 @@
-use Rattle.std.proofs.Common.{◌≡◌, ◌++◌, drop}
-use Rattle.type_inst.specs.Descriptors.{numbers_from}
-use Rattle.type_inst.proofs.family.add_numbers.Given as goal
-
-abbrev pub invariant-loop-formal : goal.invariant-loop-formal
-invariant-loop-formal l = l.initial.out ++ numbers_from 1 l.formals ≡ l.out ++ numbers_from l.next (drop l.formal-index l.formals)
