@@ -1,15 +1,16 @@
 //! What the words of a case have made so far.
 
+use crate::lists::{put, take_latest, unboxed};
 use crate::trouble::Trouble;
 use cert_form::Step;
-use math_terms::{Desc, Name, NoMemory, Shape, Sort, Term, boxed};
+use math_terms::{Desc, Name, NoMemory, Shape, Sort, Term, boxed, with};
 use sqlite_items::{Boxed, Items};
 use std::alloc::Global;
 use std::mem::replace;
 use vc_sequents::Sequent;
 
 /// Terms, the latest last; the variables in order; rows, and the steps of a certificate.
-#[derive(Debug, Drop)]
+#[derive(Drop)]
 pub struct Board {
     pub alloc: Global,
     pub terms: Items<Boxed<Term>>,
@@ -20,13 +21,17 @@ pub struct Board {
 
 /// A variable of a shape.
 fn variable(alloc: Global, shape: Shape) -> Result<(Name, Desc), NoMemory> {
-    let name = Name::new(alloc, b"X")?;
-    let desc = Desc {
+    let (name, shape) = with(Name::new(alloc, b"X"), shape)?;
+    Ok((name, unbounded(shape)))
+}
+
+/// A shape, and no more is said of its values.
+pub fn unbounded(shape: Shape) -> Desc {
+    Desc {
         shape,
         constraint: Term::Truth(true),
         initial: Term::Truth(true),
-    };
-    Ok((name, desc))
+    }
 }
 
 impl Board {
@@ -43,9 +48,8 @@ impl Board {
 
     /// A term is made.
     pub fn put(&mut self, t: Term) -> Result<(), Trouble> {
-        let t = boxed(self.alloc, t)?;
-        self.terms.push(t)?;
-        Ok(())
+        let t = boxed(self.alloc, t);
+        put(&mut self.terms, t)
     }
 
     /// The latest term, which is used.
@@ -55,28 +59,29 @@ impl Board {
 
     /// Another variable.
     pub fn declare(&mut self, shape: Shape) -> Result<(), Trouble> {
-        let v = variable(self.alloc, shape)?;
-        self.variables.push(v)?;
-        Ok(())
+        let v = variable(self.alloc, shape);
+        put(&mut self.variables, v)
     }
 
     /// The sorts of the variables.
     pub fn sorts(&self) -> Result<Items<Sort>, Trouble> {
         let mut sorts = Items::new(self.alloc);
         for v in self.variables.as_slice() {
-            sorts.push(v.1.sort(self.alloc)?)?;
+            put(&mut sorts, v.1.sort(self.alloc))?;
         }
         Ok(sorts)
     }
 
-    /// The terms as formulas, in their order. They are used.
+    /// The latest terms, so many, in their order. They are used.
+    pub fn latest_terms(&mut self, count: usize) -> Result<Items<Term>, Trouble> {
+        let latest = take_latest(self.alloc, &mut self.terms, count)?;
+        unboxed(self.alloc, latest)
+    }
+
+    /// All terms, in their order. They are used.
     pub fn formulas(&mut self) -> Result<Items<Term>, Trouble> {
-        let terms = replace(&mut self.terms, Items::new(self.alloc));
-        let mut out = Items::new(self.alloc);
-        for t in terms.as_slice() {
-            out.push(t.get().copy(self.alloc)?)?;
-        }
-        Ok(out)
+        let count = self.terms.len();
+        self.latest_terms(count)
     }
 
     /// The sequent whose goal is the latest term, and whose hypotheses are the others. All are used, with the variables.

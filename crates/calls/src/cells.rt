@@ -18,13 +18,24 @@ use term_cells::{Cells, Scratch};
 const ROOM: usize = 1000;
 
 /// Cells, and the places of what was loaded into them.
-#[derive(Debug, Drop)]
+#[derive(Drop)]
 struct Loaded {
     cells: Cells,
     places: Items<u32>,
 }
 
 impl Loaded {
+    // Loads terms one after another.
+    fn load(&mut self, terms: &[Boxed<Term>]) -> Result<(), Trouble> {
+        for t in terms {
+            match self.cells.load(t.get()) {
+                Some(place) => self.places.push(place)?,
+                None => return Err(Trouble::NotUnderstood),
+            }
+        }
+        Ok(())
+    }
+
     // The latest place.
     fn last(&self) -> Result<u32, Trouble> {
         self.places
@@ -34,25 +45,47 @@ impl Loaded {
             .ok_or(Trouble::NotUnderstood)
     }
 
-    // The place before the latest.
-    fn last_but_one(&self) -> Result<u32, Trouble> {
+    // The latest two places.
+    fn last_two(&self) -> Result<(u32, u32), Trouble> {
         match self.places.as_slice() {
-            [.., p, _] => Ok(*p),
+            [.., p, q] => Ok((*p, *q)),
             _ => Err(Trouble::NotUnderstood),
         }
+    }
+
+    // The latest place as a goal, and the others as hypotheses.
+    fn goal_and_hyps(&self) -> Result<(u32, &[u32]), Trouble> {
+        match self.places.as_slice() {
+            [hyps @ .., goal] => Ok((*goal, hyps)),
+            [] => Err(Trouble::NotUnderstood),
+        }
+    }
+
+    fn say_same(&self, said: &mut String) -> Result<(), Trouble> {
+        let (p, q) = self.last_two()?;
+        say_truth(said, self.cells.same(p, q))
+    }
+
+    fn say_before(&self, alloc: Global, said: &mut String) -> Result<(), Trouble> {
+        let (p, q) = self.last_two()?;
+        let mut scratch = Scratch::new(alloc, ROOM)?;
+        say_truth(said, self.cells.before(p, q, &mut scratch))
+    }
+
+    fn say_nodes(&self, said: &mut String, most: u32) -> Result<(), Trouble> {
+        let p = self.last()?;
+        let most = most.min(1_000_000);
+        say_number(said, i64::from(self.cells.nodes_up_to(p, most)))
     }
 }
 
 fn load_all(alloc: Global, terms: &[Boxed<Term>]) -> Result<Loaded, Trouble> {
-    let mut cells = Cells::new(alloc, ROOM)?;
-    let mut places = Items::new(alloc);
-    for t in terms {
-        match cells.load(t.get()) {
-            Some(place) => places.push(place)?,
-            None => return Err(Trouble::NotUnderstood),
-        }
-    }
-    Ok(Loaded { cells, places })
+    let mut loaded = Loaded {
+        cells: Cells::new(alloc, ROOM)?,
+        places: Items::new(alloc),
+    };
+    loaded.load(terms)?;
+    Ok(loaded)
 }
 
 fn say_places(
@@ -98,64 +131,67 @@ impl Board {
 
     fn say_cell_same(&self, said: &mut String) -> Result<(), Trouble> {
         let loaded = self.in_cells()?;
-        let p = loaded.last_but_one()?;
-        let q = loaded.last()?;
-        say_truth(said, loaded.cells.same(p, q))
+        loaded.say_same(said)
     }
 
     fn say_cell_before(&self, said: &mut String) -> Result<(), Trouble> {
         let loaded = self.in_cells()?;
-        let p = loaded.last_but_one()?;
-        let q = loaded.last()?;
-        let mut scratch = Scratch::new(self.alloc, ROOM)?;
-        say_truth(said, loaded.cells.before(p, q, &mut scratch))
+        loaded.say_before(self.alloc, said)
     }
 
-    fn say_cell_number(&self, said: &mut String) -> Result<(), Trouble> {
-        let loaded = self.in_cells()?;
+    fn say_number_in(&self, said: &mut String, loaded: &Loaded) -> Result<(), Trouble> {
         let p = loaded.last()?;
         say_truth(said, loaded.cells.is_number(p, self.variables.as_slice()))
     }
 
-    fn say_cell_truth(&self, said: &mut String) -> Result<(), Trouble> {
+    fn say_cell_number(&self, said: &mut String) -> Result<(), Trouble> {
         let loaded = self.in_cells()?;
+        self.say_number_in(said, &loaded)
+    }
+
+    fn say_truth_in(&self, said: &mut String, loaded: &Loaded) -> Result<(), Trouble> {
         let p = loaded.last()?;
         say_truth(said, loaded.cells.is_truth(p, self.variables.as_slice()))
+    }
+
+    fn say_cell_truth(&self, said: &mut String) -> Result<(), Trouble> {
+        let loaded = self.in_cells()?;
+        self.say_truth_in(said, &loaded)
     }
 
     fn say_cell_nodes(&self, said: &mut String, rest: &str) -> Result<(), Trouble> {
         let most = count(rest)?;
         let loaded = self.in_cells()?;
-        let p = loaded.last()?;
-        let most = most.min(1_000_000);
-        say_number(said, i64::from(loaded.cells.nodes_up_to(p, most)))
+        loaded.say_nodes(said, most)
+    }
+
+    // The rows and lines of the latest step.
+    fn linear_step(&self) -> Result<(&[RowName], &[Line]), Trouble> {
+        match self.steps.as_slice().last() {
+            Some(Step::Linear { rows, lines }) => Ok((rows.as_slice(), lines.as_slice())),
+            _ => Err(Trouble::NotUnderstood),
+        }
+    }
+
+    fn say_test_in(&self, said: &mut String, nodes: usize, loaded: &Loaded) -> Result<(), Trouble>
+        requires { nodes < 2 ^ 31 }
+    {
+        let (goal, hyps) = loaded.goal_and_hyps()?;
+        let (rows, lines) = self.linear_step()?;
+        let sequent = CellSequent {
+            cells: &loaded.cells,
+            vars: self.variables.as_slice(),
+            hyps,
+            goal,
+        };
+        let mut room = Room::new(self.alloc, nodes)?;
+        say_test(&mut room, said, nodes, &sequent, rows, lines)
     }
 
     fn say_cell_test(&self, said: &mut String, rest: &str) -> Result<(), Trouble> {
         let nodes = count(rest)?;
         let loaded = self.in_cells()?;
-        let nodes = nodes.min(1_000_000) as usize;
-        let Some((goal, hyps)) = loaded.places.as_slice().split_last() else {
-            return Err(Trouble::NotUnderstood);
-        };
-        let sequent = CellSequent {
-            cells: &loaded.cells,
-            vars: self.variables.as_slice(),
-            hyps,
-            goal: *goal,
-        };
-        let Some(Step::Linear { rows, lines }) = self.steps.as_slice().last() else {
-            return Err(Trouble::NotUnderstood);
-        };
-        let mut room = Room::new(self.alloc, nodes)?;
-        say_test(
-            &mut room,
-            said,
-            nodes,
-            &sequent,
-            rows.as_slice(),
-            lines.as_slice(),
-        )
+        self.say_test_in(said, nodes.min(1_000_000) as usize, &loaded)
     }
 
     fn say_load(&self, said: &mut String, rest: &str) -> Result<(), Trouble> {

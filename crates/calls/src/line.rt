@@ -1,5 +1,6 @@
 //! The answer of a case.
 
+use crate::answers::answers;
 use crate::board::Board;
 use crate::numbers::calls_with_numbers;
 use crate::outside::outside;
@@ -63,22 +64,37 @@ impl Board {
     }
 }
 
+// Does what the words of a case say, one after another.
+fn do_words(board: &mut Board, said: &mut String, line: &str) -> Result<(), Trouble> {
+    for word in line.split_whitespace() {
+        board.word(said, word)?;
+    }
+    Ok(())
+}
+
+fn answer_words(alloc: Global, said: &mut String, line: &str) -> Result<(), Trouble> {
+    let mut board = Board::new(alloc);
+    do_words(&mut board, said, line)
+}
+
+// What a call on a text answers, whose word stands before the bar.
+fn answer_text(alloc: Global, said: &mut String, word: &str, text: &str) -> Result<(), Trouble> {
+    let (name, rest) = name_and_rest(word);
+    if outside(alloc, said, name, rest, text)? {
+        return Ok(());
+    }
+    if answers(alloc, said, name, rest, text)? {
+        return Ok(());
+    }
+    text_answer(alloc, said, name, rest, text)
+}
+
 /// What the calls of a case answer, each after a blank. A case with a bar has its words before it, and a text after it.
 pub fn answer(alloc: Global, line: &str) -> Result<String, Trouble> {
     let mut said = String::from_str(alloc, " =")?;
     match line.split_once(" | ") {
-        Some((word, text)) => {
-            let (name, rest) = name_and_rest(word);
-            if !outside(alloc, &mut said, name, rest, text)? {
-                text_answer(alloc, &mut said, name, rest, text)?;
-            }
-        }
-        None => {
-            let mut board = Board::new(alloc);
-            for word in line.split_whitespace() {
-                board.word(&mut said, word)?;
-            }
-        }
+        Some((word, text)) => answer_text(alloc, &mut said, word, text)?,
+        None => answer_words(alloc, &mut said, line)?,
     }
     Ok(said)
 }

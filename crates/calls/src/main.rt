@@ -3,9 +3,11 @@
 //! calls something with what was made. `words.rt` says how they are spelled.
 #![tactic(auto)]
 
+mod answers;
 mod board;
 mod cells;
 mod line;
+mod lists;
 mod making;
 mod numbers;
 mod outside;

@@ -3,10 +3,11 @@
 //! so on; `part` takes three, `tuple:N` the latest N, `proj:K` and `initial:K` one. `times:N` puts the latest term again until it stands
 //! N times, and `ands:N` makes a conjunction of the latest two, N times.
 
-use crate::board::Board;
+use crate::board::{Board, unbounded};
+use crate::lists::{on_heap, put};
 use crate::trouble::Trouble;
-use crate::words::count;
-use math_terms::{Binary, Boxed, Desc, Items, NoMemory, Shape, Term, Unary};
+use crate::words::{count, parsed};
+use math_terms::{Binary, Boxed, NoMemory, Shape, Term, Unary};
 use std::alloc::Global;
 
 fn leaf(name: &str) -> Option<Term> {
@@ -16,10 +17,14 @@ fn leaf(name: &str) -> Option<Term> {
         "min_int" => Some(Term::MinInt),
         "max_int" => Some(Term::MaxInt),
         "empty" => Some(Term::Empty),
-        _ => match name.strip_prefix("v") {
-            Some(k) => k.parse::<u32>().ok().map(Term::Var),
-            None => name.parse::<i64>().ok().map(Term::Num),
-        },
+        _ => variable_or_number(name),
+    }
+}
+
+fn variable_or_number(name: &str) -> Option<Term> {
+    match name.strip_prefix("v") {
+        Some(k) => Some(Term::Var(parsed::<u32>(k).ok()?)),
+        None => Some(Term::Num(parsed::<i64>(name).ok()?)),
     }
 }
 
@@ -53,12 +58,7 @@ fn binary(name: &str) -> Option<Binary> {
 
 // A variable of strings of numbers.
 fn strings(alloc: Global) -> Result<Shape, NoMemory> {
-    let entry = Desc {
-        shape: Shape::Z,
-        constraint: Term::Truth(true),
-        initial: Term::Truth(true),
-    };
-    Ok(Shape::Str(Boxed::new(alloc, entry)?))
+    Ok(Shape::Str(Boxed::new(alloc, unbounded(Shape::Z))?))
 }
 
 impl Board {
@@ -93,31 +93,10 @@ impl Board {
         self.put(Term::Part(i, j, s))
     }
 
-    // The latest terms, so many, as parts.
-    fn parts(&mut self, parts: usize) -> Result<Items<Term>, Trouble> {
-        let first = self
-            .terms
-            .len()
-            .checked_sub(parts)
-            .ok_or(Trouble::NotUnderstood)?;
-        let mut out = Items::new(self.alloc);
-        for t in self.terms.as_slice().iter().skip(first) {
-            out.push(t.get().copy(self.alloc)?)?;
-        }
-        for _ in 0..parts {
-            drop(self.take()?);
-        }
-        Ok(out)
-    }
-
     // The latest term once more.
     fn again(&mut self) -> Result<(), Trouble> {
-        let copied = match self.terms.as_slice().last() {
-            Some(t) => Boxed::new(self.alloc, t.get().copy(self.alloc)?)?,
-            None => return Err(Trouble::NotUnderstood),
-        };
-        self.terms.push(copied)?;
-        Ok(())
+        let copied = on_heap(self.alloc, self.latest()?.copy(self.alloc));
+        put(&mut self.terms, copied)
     }
 
     // The latest term until it stands so many times.
@@ -137,7 +116,7 @@ impl Board {
     }
 
     fn make_tuple(&mut self, parts: usize) -> Result<(), Trouble> {
-        let parts = self.parts(parts)?;
+        let parts = self.latest_terms(parts)?;
         self.put(Term::Tuple(parts))
     }
 

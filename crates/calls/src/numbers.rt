@@ -3,17 +3,14 @@
 
 use crate::saying::{say, say_truth};
 use crate::trouble::Trouble;
-use crate::words::two_parts;
+use crate::words::{parsed, two_parts};
 use num_theory::Number;
 
 fn number(text: &str) -> Result<Number, Trouble> {
     if text == "lost" {
         return Ok(Number::Lost);
     }
-    match text.parse::<i128>() {
-        Ok(n) => Ok(Number::Exact(n)),
-        Err(_) => Err(Trouble::NotUnderstood),
-    }
+    Ok(Number::Exact(parsed::<i128>(text)?))
 }
 
 fn two_numbers(rest: &str) -> Result<(Number, Number), Trouble> {

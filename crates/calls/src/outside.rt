@@ -3,7 +3,7 @@
 //! of two bytes of such a source, of one that never fails (`reads:calm`) or of a reader (`reads:std`); `writes:.. | WORDS` writes the
 //! words one after another on such a sink; `files:.. | CALLS` makes the calls `read:NAME` and `write:NAME:BYTES` on such a shelf.
 
-use crate::saying::{put_bytes, say, say_bytes, say_number, say_truth};
+use crate::saying::{put_bytes, say, say_at, say_bytes, say_number, say_truth};
 use crate::trouble::{Trouble, push};
 use crate::words::{count, name_and_rest, two_parts};
 use edge_io::adapters::{StdSink, StdSource};
@@ -16,14 +16,15 @@ use edge_io::source::Source;
 use std::alloc::Global;
 use std::io::Cursor;
 
-fn bytes_of(alloc: Global, text: &[u8]) -> Result<Vec<u8>, Trouble> {
+/// A text's bytes.
+pub fn bytes_of(alloc: Global, text: &[u8]) -> Result<Vec<u8>, Trouble> {
     let mut bytes = Vec::new(alloc);
     bytes.extend_from_slice(text)?;
     Ok(bytes)
 }
 
-// The numbers of calls that fail.
-fn failing(alloc: Global, rest: &str) -> Result<Vec<u32>, Trouble> {
+/// The numbers of calls that fail.
+pub fn failing(alloc: Global, rest: &str) -> Result<Vec<u32>, Trouble> {
     let mut out = Vec::new(alloc);
     for piece in rest.split(',') {
         if !piece.is_empty() {
@@ -37,14 +38,8 @@ fn say_input_error(said: &mut String, e: InputError) -> Result<(), Trouble> {
     match e {
         InputError::Failed => say(said, "failed"),
         InputError::TooLong => say(said, "TooLong"),
-        InputError::NoNumber { at } => {
-            say(said, "NoNumber at")?;
-            say_number(said, i64::from(at))
-        }
-        InputError::TooMany { at } => {
-            say(said, "TooMany at")?;
-            say_number(said, i64::from(at))
-        }
+        InputError::NoNumber { at } => say_at(said, "NoNumber", at),
+        InputError::TooMany { at } => say_at(said, "TooMany", at),
         InputError::NoMemory => Err(Trouble::NoMemory),
     }
 }
@@ -61,11 +56,17 @@ fn say_numbers<S: Source>(alloc: Global, said: &mut String, source: &mut S) -> R
     }
 }
 
-fn say_repeated(alloc: Global, said: &mut String, piece: &[u8], times: u32) -> Result<(), Trouble> {
+/// A text so many times.
+pub fn repeated(alloc: Global, piece: &[u8], times: u32) -> Result<Vec<u8>, Trouble> {
     let mut bytes = Vec::new(alloc);
     for _ in 0..times {
         bytes.extend_from_slice(piece)?;
     }
+    Ok(bytes)
+}
+
+fn say_repeated(alloc: Global, said: &mut String, piece: &[u8], times: u32) -> Result<(), Trouble> {
+    let bytes = repeated(alloc, piece, times)?;
     say_numbers(alloc, said, &mut CalmSource::new(bytes))
 }
 

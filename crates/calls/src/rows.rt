@@ -3,7 +3,7 @@
 use crate::board::Board;
 use crate::saying::{say, say_number, say_row};
 use crate::trouble::{Trouble, push};
-use crate::words::{smalls, two_counts};
+use crate::words::{parsed_list, two_counts};
 use num_theory::{combine, largest, reduce};
 use sqlite_items::Items;
 use std::alloc::Global;
@@ -56,7 +56,7 @@ impl Board {
 
     // Another row.
     fn put_row(&mut self, rest: &str) -> Result<(), Trouble> {
-        let row = smalls(self.alloc, rest)?;
+        let row = parsed_list::<i32>(self.alloc, rest)?;
         self.rows.push(row)?;
         Ok(())
     }

@@ -27,6 +27,13 @@ pub fn say_number(said: &mut String, n: i64) -> Result<(), Trouble> {
     Ok(())
 }
 
+/// A word and a place, ` WORD at PLACE`.
+pub fn say_at(said: &mut String, word: &str, at: u32) -> Result<(), Trouble> {
+    say(said, word)?;
+    say(said, "at")?;
+    say_number(said, i64::from(at))
+}
+
 /// Bytes of UTF-8.
 pub fn put_bytes(said: &mut String, bytes: &[u8]) -> Result<(), Trouble> {
     match std::str::from_utf8(bytes) {
@@ -79,9 +86,17 @@ pub fn say_row_name(said: &mut String, name: RowName) -> Result<(), Trouble> {
 }
 
 /// A line, as certificates write it: p, i, q and j.
-pub fn say_line(said: &mut String, line: Line) -> Result<(), Trouble> {
+fn say_line(said: &mut String, line: Line) -> Result<(), Trouble> {
     let Line { p, i, q, j } = line;
     write!(said, " {p} {i} {q} {j}")?;
+    Ok(())
+}
+
+/// Lines, one after another.
+pub fn say_lines(said: &mut String, lines: &[Line]) -> Result<(), Trouble> {
+    for line in lines {
+        say_line(said, *line)?;
+    }
     Ok(())
 }
 
@@ -108,8 +123,9 @@ pub fn say_sort(said: &mut String, s: &Sort) -> Result<(), Trouble> {
     }
 }
 
+/// Sorts, one after another.
 #[cycle(say_sort)]
-fn say_sorts(said: &mut String, sorts: &[Sort]) -> Result<(), Trouble> {
+pub fn say_sorts(said: &mut String, sorts: &[Sort]) -> Result<(), Trouble> {
     for s in sorts {
         say_sort(said, s)?;
     }

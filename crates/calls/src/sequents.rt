@@ -2,7 +2,7 @@
 //! and `prove` (`prove:count` says only the number of steps), and `check:NODES`, which takes the steps as a certificate and a desk of so many nodes.
 
 use crate::board::Board;
-use crate::saying::{say, say_line, say_number, say_row_name, say_term, say_terms};
+use crate::saying::{say, say_lines, say_number, say_row_name, say_term, say_terms};
 use crate::trouble::Trouble;
 use crate::words::count;
 use cert_check::{Desk, Verdict, check};
@@ -47,13 +47,6 @@ fn say_leaves(alloc: Global, said: &mut String, s: &Sequent) -> Result<(), Troub
 fn say_row_names(said: &mut String, rows: &[RowName]) -> Result<(), Trouble> {
     for name in rows {
         say_row_name(said, *name)?;
-    }
-    Ok(())
-}
-
-fn say_lines(said: &mut String, lines: &[Line]) -> Result<(), Trouble> {
-    for line in lines {
-        say_line(said, *line)?;
     }
     Ok(())
 }

@@ -2,25 +2,34 @@
 //! and `by:linear:h1,r2,a3,g:p.i.q.j,..`.
 
 use crate::board::Board;
+use crate::lists::put_read;
 use crate::trouble::Trouble;
-use crate::words::{count, name_and_rest, small, two_counts, two_parts};
+use crate::words::{count, name_and_rest, parsed, two_counts, two_parts};
 use cert_form::Step;
 use math_terms::{Line, RowName};
 use sqlite_items::Items;
 use std::alloc::Global;
 
+// The number behind a mark.
+fn numbered(text: &str, mark: &str) -> Option<u32> {
+    match text.strip_prefix(mark) {
+        Some(k) => count(k).ok(),
+        None => None,
+    }
+}
+
 fn row_name(text: &str) -> Result<RowName, Trouble> {
     if text == "g" {
         return Ok(RowName::Goal);
     }
-    if let Some(k) = text.strip_prefix("h") {
-        return Ok(RowName::Hyp(count(k)?));
+    if let Some(k) = numbered(text, "h") {
+        return Ok(RowName::Hyp(k));
     }
-    if let Some(k) = text.strip_prefix("r") {
-        return Ok(RowName::Second(count(k)?));
+    if let Some(k) = numbered(text, "r") {
+        return Ok(RowName::Second(k));
     }
-    match text.strip_prefix("a") {
-        Some(k) => Ok(RowName::Atom(count(k)?)),
+    match numbered(text, "a") {
+        Some(k) => Ok(RowName::Atom(k)),
         None => Err(Trouble::NotUnderstood),
     }
 }
@@ -37,16 +46,23 @@ fn halves(text: &str) -> Result<(&str, &str), Trouble> {
     text.split_once('.').ok_or(Trouble::NotUnderstood)
 }
 
-fn line(text: &str) -> Result<Line, Trouble> {
-    let (p, text) = halves(text)?;
-    let (i, text) = halves(text)?;
+// `q.j`
+fn product(text: &str) -> Result<(i32, u32), Trouble> {
     let (q, j) = halves(text)?;
-    Ok(Line {
-        p: small(p)?,
-        i: count(i)?,
-        q: small(q)?,
-        j: count(j)?,
-    })
+    Ok((parsed::<i32>(q)?, count(j)?))
+}
+
+// `p.i`, and what stands behind the dot after it.
+fn product_and_rest(text: &str) -> Result<(i32, u32, &str), Trouble> {
+    let (p, text) = halves(text)?;
+    let (i, rest) = halves(text)?;
+    Ok((parsed::<i32>(p)?, count(i)?, rest))
+}
+
+fn line(text: &str) -> Result<Line, Trouble> {
+    let (p, i, rest) = product_and_rest(text)?;
+    let (q, j) = product(rest)?;
+    Ok(Line { p, i, q, j })
 }
 
 fn lines(alloc: Global, text: &str) -> Result<Items<Line>, Trouble> {
@@ -66,23 +82,34 @@ fn linear(alloc: Global, text: &str) -> Result<Step, Trouble> {
     Ok(Step::Linear { rows, lines })
 }
 
+fn clash(rest: &str) -> Result<Step, Trouble> {
+    let (k, l) = two_counts(rest)?;
+    Ok(Step::Clash(k, l))
+}
+
+fn split(rest: &str) -> Result<Step, Trouble> {
+    let (k, n) = two_counts(rest)?;
+    Ok(Step::Split(k, n))
+}
+
+// A step that names one hypothesis.
+fn step_with(name: &str, k: u32) -> Result<Step, Trouble> {
+    match name {
+        "hyp" => Ok(Step::Hyp(k)),
+        "absurd" => Ok(Step::Absurd(k)),
+        "subst" => Ok(Step::Subst(k)),
+        _ => Err(Trouble::NotUnderstood),
+    }
+}
+
 fn step(alloc: Global, text: &str) -> Result<Step, Trouble> {
     let (name, rest) = name_and_rest(text);
     match name {
         "same" => Ok(Step::Same),
-        "hyp" => Ok(Step::Hyp(count(rest)?)),
-        "absurd" => Ok(Step::Absurd(count(rest)?)),
-        "subst" => Ok(Step::Subst(count(rest)?)),
-        "clash" => {
-            let (k, l) = two_counts(rest)?;
-            Ok(Step::Clash(k, l))
-        }
-        "split" => {
-            let (k, n) = two_counts(rest)?;
-            Ok(Step::Split(k, n))
-        }
+        "clash" => clash(rest),
+        "split" => split(rest),
         "linear" => linear(alloc, rest),
-        _ => Err(Trouble::NotUnderstood),
+        _ => step_with(name, count(rest)?),
     }
 }
 
@@ -92,8 +119,7 @@ impl Board {
         if name != "by" {
             return Ok(false);
         }
-        let step = step(self.alloc, rest)?;
-        self.steps.push(step)?;
+        put_read(&mut self.steps, step(self.alloc, rest))?;
         Ok(true)
     }
 }

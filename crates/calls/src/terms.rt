@@ -4,15 +4,14 @@
 //! `replaced:1,2` puts the latest term at a position of the one before. `rows` and `refute` take all terms as formulas.
 
 use crate::board::Board;
+use crate::lists::on_heap;
 use crate::saying::{
-    say, say_line, say_number, say_row, say_row_name, say_sort, say_term, say_terms, say_truth,
+    say, say_lines, say_number, say_row, say_row_name, say_sort, say_term, say_terms, say_truth,
 };
 use crate::trouble::Trouble;
-use crate::words::{count, counts};
+use crate::words::{count, parsed_list};
 use linear_prover::{Multipliers, RefuteError, refute};
-use math_terms::{
-    Boxed, Line, Position, Sort, Term, TermError, kind_of, replaced, sort_of, substitute, truth,
-};
+use math_terms::{Position, Sort, Term, TermError, kind_of, replaced, sort_of, substitute, truth};
 use num_theory::{LinearForm, RowError, RowTable, linear, rows};
 use std::alloc::Global;
 
@@ -24,7 +23,7 @@ const MOST_FORMULAS: usize = 1_000_000;
 
 // A copy of the position of these numbers.
 fn position(alloc: Global, rest: &str) -> Result<Position, Trouble> {
-    let places = counts(alloc, rest)?;
+    let places = parsed_list::<u32>(alloc, rest)?;
     let position = Position::new(alloc, places.as_slice())?;
     Ok(position.copy(alloc)?)
 }
@@ -81,13 +80,6 @@ fn say_table(alloc: Global, said: &mut String, table: &RowTable) -> Result<(), T
     }
     for name in table.names.as_slice() {
         say_row_name(said, *name)?;
-    }
-    Ok(())
-}
-
-fn say_lines(said: &mut String, lines: &[Line]) -> Result<(), Trouble> {
-    for line in lines {
-        say_line(said, *line)?;
     }
     Ok(())
 }
@@ -195,7 +187,7 @@ impl Board {
     // Whether a copy of the latest term is the same.
     fn say_copy(&self, said: &mut String) -> Result<(), Trouble> {
         let t = self.latest()?;
-        let copied = Boxed::new(self.alloc, t.copy(self.alloc)?)?;
+        let copied = on_heap(self.alloc, t.copy(self.alloc))?;
         say_truth(said, copied.get().same(t))
     }
 

@@ -5,9 +5,9 @@ ghost use Rattle.main_form.specs.Formed.{IsForm};
 ghost use Rattle.source_meaning.specs.Formed.{IsFormed};
 ghost use Rattle.source_meaning.specs.declared.linked.Proc.{Proc};
 
-use crate::saying::{put_bytes, say, say_bytes, say_number, say_term};
-use crate::trouble::{Trouble, push};
-use crate::words::{number, numbers, two_parts};
+use crate::saying::{put_bytes, say, say_at, say_bytes, say_number, say_term};
+use crate::trouble::Trouble;
+use crate::words::{parsed, parsed_list, two_parts, words_of};
 use command_words::{Command, read_command};
 use expr_parser::SyntaxKind;
 use main_form::{Module, Shape, built_is_formed, main_module};
@@ -26,13 +26,12 @@ const MOST_BYTES: usize = 1_000_000;
 
 fn say_lex_error(said: &mut String, e: &LexError) -> Result<(), Trouble> {
     match e {
-        LexError::BadByte { at } => write!(said, " BadByte at {at}")?,
-        LexError::OpenComment { at } => write!(said, " OpenComment at {at}")?,
-        LexError::LongName { at } => write!(said, " LongName at {at}")?,
-        LexError::BigLiteral { at } => write!(said, " BigLiteral at {at}")?,
-        LexError::NoMemory => return Err(Trouble::NoMemory),
+        LexError::BadByte { at } => say_at(said, "BadByte", *at),
+        LexError::OpenComment { at } => say_at(said, "OpenComment", *at),
+        LexError::LongName { at } => say_at(said, "LongName", *at),
+        LexError::BigLiteral { at } => say_at(said, "BigLiteral", *at),
+        LexError::NoMemory => Err(Trouble::NoMemory),
     }
-    Ok(())
 }
 
 // `PLACE+LENGTH:TOKEN`, where a symbol is written by its number.
@@ -77,9 +76,7 @@ fn say_parse_error(said: &mut String, e: ParseError) -> Result<(), Trouble> {
         ParseError::Lex(e) => say_lex_error(said, &e),
         ParseError::Syntax(e) => {
             let word = syntax_word(e.kind)?;
-            let at = e.at;
-            write!(said, " {word} at {at}")?;
-            Ok(())
+            say_at(said, word, e.at)
         }
         ParseError::NoMemory => Err(Trouble::NoMemory),
     }
@@ -105,20 +102,16 @@ fn kind_word(kind: VcKind) -> &'static str {
 }
 
 fn say_name(said: &mut String, name: &VcName) -> Result<(), Trouble> {
-    let number = name.number;
     say_bytes(said, name.component.bytes())?;
     say_bytes(said, name.part.bytes())?;
-    write!(said, " {number}")?;
-    Ok(())
+    say_number(said, i64::from(name.number))
 }
 
 fn say_head(said: &mut String, vc: &Vc) -> Result<(), Trouble> {
-    let at = vc.at;
-    let kind = kind_word(vc.kind);
     say(said, "/")?;
     say_name(said, &vc.name)?;
-    write!(said, " {kind} at {at} (")?;
-    Ok(())
+    say_at(said, kind_word(vc.kind), vc.at)?;
+    say(said, "(")
 }
 
 fn say_variables(said: &mut String, variables: &[(Name, Desc)]) -> Result<(), Trouble> {
@@ -158,11 +151,8 @@ fn say_unproved(alloc: Global, said: &mut String, m: &Module) -> Result<(), Trou
     match first_unproved(alloc, m)? {
         None => say(said, "none"),
         Some(unproved) => {
-            let number = unproved.number;
-            let at = unproved.at;
-            let kind = kind_word(unproved.kind);
-            write!(said, " {number} {kind} at {at}")?;
-            Ok(())
+            say_number(said, i64::from(unproved.number))?;
+            say_at(said, kind_word(unproved.kind), unproved.at)
         }
     }
 }
@@ -210,8 +200,8 @@ fn say_meaning(alloc: Global, said: &mut String, m: &Module, rest: &str) -> Resu
     requires { IsForm m.now }
 {
     let (fuel, input) = two_parts(rest)?;
-    let fuel = number(fuel)?.unsigned_abs();
-    let input = numbers(alloc, input)?;
+    let fuel = parsed::<i64>(fuel)?.unsigned_abs();
+    let input = parsed_list::<i64>(alloc, input)?;
     let linked = link_main(alloc, m)?;
     say_run(alloc, said, &linked, input.as_slice(), fuel)
 }
@@ -256,8 +246,8 @@ fn module_answer(
 fn say_not_built(said: &mut String, name: &Name, at: u32) -> Result<(), Trouble> {
     say(said, "NotBuilt")?;
     say_bytes(said, name.bytes())?;
-    write!(said, " at {at}")?;
-    Ok(())
+    say(said, "at")?;
+    say_number(said, i64::from(at))
 }
 
 fn file_answer(
@@ -291,10 +281,7 @@ fn read_and_answer(
 }
 
 fn say_command(alloc: Global, said: &mut String, text: &str) -> Result<(), Trouble> {
-    let mut words = Vec::new(alloc);
-    for word in text.split_whitespace() {
-        push(&mut words, String::from_str(alloc, word)?)?;
-    }
+    let words = words_of(alloc, text)?;
     match read_command(&words) {
         None => say(said, "nothing"),
         Some(Command::Other) => say(said, "other"),

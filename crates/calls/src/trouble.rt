@@ -4,7 +4,7 @@ use math_terms::NoMemory;
 use std::alloc::AllocError;
 
 /// Memory has run out, or the words are none that make a case.
-#[derive(Clone, Copy, Debug, PartialEq, Eq)]
+#[derive(Clone, Copy)]
 pub enum Trouble {
     NoMemory,
     NotUnderstood,

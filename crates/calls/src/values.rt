@@ -3,13 +3,16 @@
 //! latest term, with its number, its number of children and its strength, and `form_of:N` the form of a number.
 
 use crate::board::Board;
-use crate::saying::{say, say_bytes, say_number, say_sort, say_truth};
+use crate::lists::{on_heap, put};
+use crate::saying::{say, say_bytes, say_number, say_sorts, say_truth};
 use crate::sequents::say_steps;
 use crate::texts::say_condition;
 use crate::trouble::Trouble;
-use crate::words::{count, numbers};
-use cert_form::NamedCert;
-use math_terms::{Boxed, Desc, Form, Name, NoMemory, Sort, Value, VcName, copy_sorts, copy_values};
+use crate::words::{count, parsed_list};
+use cert_form::{Cert, NamedCert};
+use math_terms::{
+    Boxed, Desc, Form, Name, NoMemory, Sort, Value, VcName, copy_sorts, copy_values, with,
+};
 use sqlite_items::Items;
 use std::alloc::Global;
 use vc_sequents::{Sequent, Vc, VcKind};
@@ -26,7 +29,7 @@ fn name_of_number(alloc: Global, number: u32) -> Result<VcName, NoMemory> {
 
 fn values(alloc: Global, rest: &str) -> Result<Items<Value>, Trouble> {
     let mut out = Items::new(alloc);
-    for n in numbers(alloc, rest)?.as_slice() {
+    for n in parsed_list::<i64>(alloc, rest)?.as_slice() {
         out.push(Value::Num(i128::from(*n)))?;
     }
     Ok(out)
@@ -67,7 +70,7 @@ fn say_form_of(said: &mut String, rest: &str) -> Result<(), Trouble> {
 
 // The sort of a copy of a descriptor.
 fn copied_sort(alloc: Global, desc: &Desc) -> Result<Sort, NoMemory> {
-    let copied = Boxed::new(alloc, desc.copy(alloc)?)?;
+    let copied = on_heap(alloc, desc.copy(alloc))?;
     copied.get().sort(alloc)
 }
 
@@ -80,36 +83,53 @@ fn condition(name: VcName, sequent: Boxed<Sequent>) -> Vc {
     }
 }
 
+// A condition of a sequent.
+fn named_condition(alloc: Global, sequent: Boxed<Sequent>) -> Result<Boxed<Vc>, NoMemory> {
+    let (name, sequent) = with(name_of_number(alloc, 1), sequent)?;
+    Ok(Boxed::new(alloc, condition(name, sequent))?)
+}
+
+// The copy of a certificate with its name.
+fn copied_cert(alloc: Global, cert: Cert) -> Result<Boxed<NamedCert>, NoMemory> {
+    let (name, cert) = with(name_of_number(alloc, 3), cert)?;
+    on_heap(alloc, NamedCert { name, cert }.copy(alloc))
+}
+
+fn say_cert(said: &mut String, cert: &NamedCert) -> Result<(), Trouble> {
+    say_number(said, i64::from(cert.name.number))?;
+    say_steps(said, cert.cert.steps.as_slice())
+}
+
 impl Board {
-    // The sorts of copies of the variables' descriptors, copied.
-    fn say_sorts(&self, said: &mut String) -> Result<(), Trouble> {
+    // The sorts of copies of the variables' descriptors.
+    fn copied_sorts(&self) -> Result<Items<Sort>, Trouble> {
         let mut sorts = Items::new(self.alloc);
         for v in self.variables.as_slice() {
-            sorts.push(copied_sort(self.alloc, &v.1)?)?;
+            put(&mut sorts, copied_sort(self.alloc, &v.1))?;
         }
+        Ok(sorts)
+    }
+
+    // The sorts of copies of the variables' descriptors, copied.
+    fn say_sorts(&self, said: &mut String) -> Result<(), Trouble> {
+        let sorts = self.copied_sorts()?;
         let copied = copy_sorts(self.alloc, sorts.as_slice())?;
-        for sort in copied.as_slice() {
-            say_sort(said, sort)?;
-        }
-        Ok(())
+        say_sorts(said, copied.as_slice())
     }
 
     // A copy of a condition of the terms' sequent.
     fn say_vc(&mut self, said: &mut String) -> Result<(), Trouble> {
         let sequent = self.sequent()?;
-        let name = name_of_number(self.alloc, 1)?;
-        let vc = Boxed::new(self.alloc, condition(name, sequent))?;
-        let copied = Boxed::new(self.alloc, vc.get().copy(self.alloc)?)?;
+        let vc = named_condition(self.alloc, sequent)?;
+        let copied = on_heap(self.alloc, vc.get().copy(self.alloc))?;
         say_condition(self.alloc, said, copied.get())
     }
 
     // A copy of a certificate of the steps.
     fn say_certificate(&mut self, said: &mut String) -> Result<(), Trouble> {
-        let name = name_of_number(self.alloc, 3)?;
         let cert = self.cert();
-        let copied = NamedCert { name, cert }.copy(self.alloc)?;
-        say_number(said, i64::from(copied.name.number))?;
-        say_steps(said, copied.cert.steps.as_slice())
+        let copied = copied_cert(self.alloc, cert)?;
+        say_cert(said, copied.get())
     }
 
     fn say_form_of_latest(&self, said: &mut String) -> Result<(), Trouble> {

@@ -5,8 +5,6 @@ pub mod answer_laws;
 mod notes;
 mod running;
 mod status;
-#[cfg(test)]
-mod tests;
 mod texts;
 mod top;
 
