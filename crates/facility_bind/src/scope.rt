@@ -320,7 +320,7 @@ const INPUT: &[u8] = b"In_Stream";
 
 const OUTPUT: &[u8] = b"Out_Stream";
 
-pub(crate) const ARRAY: &[u8] = b"Static_Array";
+const ARRAY: &[u8] = b"Static_Array";
 
 /// The types that are there without a declaration.
 #[tactic(auto, unfolding(crate::specs::Scopes::built_in))]
@@ -418,7 +418,7 @@ pub(crate) fn array_type(
     }
 }
 
-fn boxed_type(alloc: Global, t: &TypeInst) -> Result<Boxed<TypeInst>, NoMemory>
+pub(crate) fn boxed_type(alloc: Global, t: &TypeInst) -> Result<Boxed<TypeInst>, NoMemory>
     ensures { IfOk result (λ u. u ≡ t.now) }
 {
     Ok(Boxed::new(alloc, t.copy(alloc)?)?)
@@ -436,7 +436,8 @@ fn array_type_name(alloc: Global, facility: &Name, meaning: TypeInst) -> Result<
     })
 }
 
-fn array_name(alloc: Global) -> Result<Name, NoMemory>
+/// The name of the type of arrays.
+pub(crate) fn array_name(alloc: Global) -> Result<Name, NoMemory>
     ensures { IfOk result (λ name. name ≡ spec.array_name) }
 {
     Name::new(alloc, ARRAY)
