@@ -1,0 +1,10 @@
+pub mod Blocks
+pub mod Facilities
+pub mod Lists
+pub mod Looks
+pub mod Moved
+pub mod Named
+pub mod Noting
+pub mod Positions
+pub mod Procedures
+pub mod Searches

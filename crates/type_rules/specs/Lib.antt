@@ -1,0 +1,7 @@
+pub mod Breaches
+pub mod Concepts
+pub mod Declarations
+pub mod Headings
+pub mod Names
+pub mod Origins
+pub mod working
