@@ -14,7 +14,7 @@ use Rattle.res_ast.specs.declared.procedure.Procedure.{Procedure}
 use Rattle.main_form.specs.declared.expressions.Wanted.{Wanted}
 use Rattle.main_form.specs.declared.expressions.Wanted.TheVariants as wanted
 use Rattle.main_form.specs.declared.room.Room.{Room}
-use Rattle.main_form.specs.Places.{Look, earlier, earliest, form_step, expr_step, form_look, look, expr_first, all_first, call_first, is_remaining, stmt_first_step, stmt_first, stmt_room_step, stmt_room, one_by_one, one_more}
+use Rattle.main_form.specs.Places.{Look, earlier, earliest, form_step, expr_step, form_look, look, expr_first, all_first, call_fits, stands, stmt_first_step, stmt_first, stmt_room_step, stmt_room, one_by_one, one_more}
 
 module _ (main : Procedure) where
   form_rolled : (f : Form) (x : Form-F Form Expr) (at : ℕ) (w : Wanted) → f ≡ roll-Form x → (form_look main f at).first w ≡ (form_step main (map-Form Form Expr (ℕ → Look) Look (form_look main) (look main) x) at).first w
@@ -25,10 +25,10 @@ module _ (main : Procedure) where
   pub tuple_opened : (f : Form) (parts : List Expr) (at : ℕ) (w : Wanted) → f ≡ form.Tuple parts → earlier (Some at) (all_first (map (look main) parts)) ≡ (form_look main f at).first w
   tuple_opened f parts at w is = sym (form_rolled f (Form-F.Tuple parts) at w (is ∙ sym (form.rolls-Tuple parts)))
 
-  pub call_opened : (f : Form) (facility : Option (List ℕ)) (name : List ℕ) (args : List Expr) (at : ℕ) (w : Wanted) → f ≡ form.Call facility name args → let looks = map (look main) args in call_first (is_remaining facility name looks) looks at w ≡ (form_look main f at).first w
+  pub call_opened : (f : Form) (facility : Option (List ℕ)) (name : List ℕ) (args : List Expr) (at : ℕ) (w : Wanted) → f ≡ form.Call facility name args → stands (call_fits facility name w) at (all_first (map (look main) args)) ≡ (form_look main f at).first w
   call_opened f facility name args at w is = sym (form_rolled f (Form-F.Call facility name args) at w (is ∙ sym (form.rolls-Call facility name args)))
 
-  pub if_opened : (x : Stmt) (at : ℕ) (g : Expr) (a b : List Stmt) → x ≡ stmt.If at g a b → earlier (expr_first main g wanted.Truth) (earlier (earliest (map (stmt_first main) a)) (earliest (map (stmt_first main) b))) ≡ stmt_first main x
+  pub if_opened : (x : Stmt) (at : ℕ) (g : Expr) (a b : List Stmt) → x ≡ stmt.If at g a b → earlier (expr_first main g wanted.Program) (earlier (earliest (map (stmt_first main) a)) (earliest (map (stmt_first main) b))) ≡ stmt_first main x
   if_opened x at g a b is =
       sym (fold-roll-Stmt (Option ℕ) (stmt_first_step main) (Stmt-F.If at g a b))
       ∙ ap (stmt_first main) (stmt.rolls-If at g a b ∙ sym is)

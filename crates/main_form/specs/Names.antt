@@ -1,9 +1,7 @@
 -- The names of Main: of its streams, by the places of the parameters, and of its variables, by the order of their declarations.
-use Rattle.std.specs.Prelude.{ℕ, suc, Bool, if◌then◌else◌, List, [], ◌∷◌, map, Option, Some, None, option_map}
-use Rattle.std.specs.List.{list_any}
+use Rattle.std.specs.Prelude.{ℕ, suc, if◌then◌else◌, List, [], ◌∷◌, map, Option, Some, None, option_map}
 use Rattle.res_lexer.specs.Pieces.{same_bytes}
 use Rattle.res_ast.specs.declared.heading.Param.{Param}
-use Rattle.res_ast.specs.declared.heading.PType.{PType}
 use Rattle.res_ast.specs.declared.procedure.Procedure.{Procedure}
 
 abbrev pub first_name : List Param → List ℕ
@@ -22,13 +20,6 @@ output_of main = second_name main.heading.params
 
 abbrev pub variables_of : Procedure → List (List ℕ)
 variables_of main = map (λ v. v.0) main.vars
-
--- one of the variables has the name
-abbrev pub is_among : List (List ℕ × PType) → List ℕ → Bool
-is_among vars name = list_any (λ v. same_bytes name v.0) vars
-
-abbrev pub declares : Procedure → List ℕ → Bool
-declares main name = is_among main.vars name
 
 -- the number of the first of some names that is this one
 abbrev pub number_in : List ℕ → List (List ℕ) → Option ℕ

@@ -1,5 +1,5 @@
 -- The first place of a file at which it is not of the form: one facility module that uses nothing and has the one operation Main, over
--- integers.
+-- integers. What names mean, and whether types fit, is no matter of the form.
 use Rattle.std.specs.Prelude.{ℕ, suc, zero, min, Bool, true, false, not, ◌&&◌, ◌||◌, if◌then◌else◌, List, [], ◌∷◌, ◌++◌, map, Option, Some, None, codes}
 use Rattle.res_lexer.specs.Pieces.{same_bytes}
 use Rattle.res_ast.specs.declared.expression.BinOp.{BinOp}
@@ -9,7 +9,6 @@ use Rattle.res_ast.specs.declared.expression.Form.{Form}
 use Rattle.res_ast.specs.declared.expression.Form.TheOpen.{Form-F, Expr-F}
 use Rattle.res_ast.specs.declared.expression.Form.TheFolds.{fold-Expr, fold-Form}
 use Rattle.res_ast.specs.declared.expression.Form.TheViews.{out-Expr}
-use Rattle.res_ast.specs.declared.statement.Place.{Place}
 use Rattle.res_ast.specs.declared.statement.Stmt.{Stmt}
 use Rattle.res_ast.specs.declared.statement.Stmt.TheOpen.{Stmt-F}
 use Rattle.res_ast.specs.declared.statement.Stmt.TheFolds.{fold-Stmt}
@@ -27,7 +26,7 @@ use Rattle.res_ast.specs.declared.component.FacilityModule.{FacilityModule}
 use Rattle.main_form.specs.declared.expressions.Wanted.{Wanted}
 use Rattle.main_form.specs.declared.expressions.Wanted.TheVariants as wanted
 use Rattle.main_form.specs.declared.room.Room.{Room}
-use Rattle.main_form.specs.Names.{declares, input_of, is_among, output_of}
+use Rattle.main_form.specs.Names.{input_of, output_of}
 
 -- ---- places
 
@@ -56,21 +55,14 @@ stands false at parts = earlier (Some at) parts
 
 -- ---- expressions
 
--- What is seen of an expression: whether it is a literal, or the word of the input, and the first place, by what it is wanted as.
+-- What is seen of an expression: whether it is a literal, and the first place, by what it is wanted as.
 pub record Look : Type 0 where
   pub literal : Bool
-  pub input : Bool
   pub first : Wanted → Option ℕ
 
-abbrev pub is_number : Wanted → Bool
-is_number wanted.Number = true
-is_number wanted.Whatever = true
-is_number w = false
-
-abbrev pub is_truth : Wanted → Bool
-is_truth wanted.Truth = true
-is_truth wanted.Whatever = true
-is_truth w = false
+abbrev pub is_program : Wanted → Bool
+is_program wanted.Program = true
+is_program w = false
 
 abbrev pub is_operand : Wanted → Bool
 is_operand wanted.Operand = true
@@ -91,79 +83,62 @@ abbrev pub is_claim : Wanted → Bool
 is_claim wanted.Claim = true
 is_claim w = false
 
--- whether the word is what is wanted
+-- Whether the word is what is wanted. In a program any word is, whether or not it is declared; a claim is not about the input.
 abbrev pub word_fits : Procedure → List ℕ → Wanted → Bool
-word_fits main name wanted.Number = declares main name
-word_fits main name wanted.Whatever = declares main name
-word_fits main name wanted.Variable = declares main name
-word_fits main name wanted.Input = same_bytes name (input_of main)
-word_fits main name wanted.Output = same_bytes name (output_of main)
+word_fits main name wanted.Program = true
+word_fits main name wanted.Output = same_bytes name (output_of main) || not (same_bytes name (input_of main))
 word_fits main name w = false
 
--- `Remaining` of the input
-abbrev pub is_remaining : Option (List ℕ) → List ℕ → List Look → Bool
-is_remaining None name (a ∷ []) = same_bytes name (codes "Remaining") && a.input
-is_remaining facility name args = false
+-- `Remaining`, whatever its arguments are
+abbrev pub is_remaining : Option (List ℕ) → List ℕ → Bool
+is_remaining None name = same_bytes name (codes "Remaining")
+is_remaining (Some facility) name = false
+
+abbrev pub call_fits : Option (List ℕ) → List ℕ → Wanted → Bool
+call_fits facility name w = is_remaining facility name && is_program w
 
 abbrev pub all_first : List Look → Option ℕ
-all_first looks = earliest (map (λ a. a.first wanted.Whatever) looks)
-
-abbrev pub call_first : Bool → List Look → ℕ → Wanted → Option ℕ
-call_first true args at w = stands (is_number w) at None
-call_first false args at w = earlier (Some at) (all_first args)
+all_first looks = earliest (map (λ a. a.first wanted.Program) looks)
 
 -- whether an operator is what is wanted
 abbrev pub operator_fits : BinOp → Wanted → Bool
-operator_fits binary.Add w = is_number w
-operator_fits binary.Sub w = is_number w
+operator_fits binary.Add w = is_program w
+operator_fits binary.Sub w = is_program w
 operator_fits binary.Mul w = false
 operator_fits binary.Div w = false
 operator_fits binary.Mod w = false
 operator_fits binary.Cat w = is_operands w
-operator_fits binary.Eq w = is_truth w || is_claim w
-operator_fits binary.NotEq w = is_truth w
-operator_fits binary.Less w = is_truth w
-operator_fits binary.LessEq w = is_truth w
-operator_fits binary.Greater w = is_truth w
-operator_fits binary.GreaterEq w = is_truth w
-operator_fits binary.And w = is_truth w
-operator_fits binary.Or w = is_truth w
+operator_fits binary.Eq w = is_program w || is_claim w
+operator_fits binary.NotEq w = is_program w
+operator_fits binary.Less w = is_program w
+operator_fits binary.LessEq w = is_program w
+operator_fits binary.Greater w = is_program w
+operator_fits binary.GreaterEq w = is_program w
+operator_fits binary.And w = is_program w
+operator_fits binary.Or w = is_program w
 operator_fits binary.Implies w = false
 
--- a claim is `Out =` and a chain; else both sides are numbers
-abbrev pub equal_parts : Bool → Wanted × Wanted
-equal_parts true = (wanted.Output, wanted.Chain)
-equal_parts false = (wanted.Number, wanted.Number)
+-- What an operator's two parts are wanted as, where it is wanted as this: a claim is `Out =` and a chain, and a chain has operands
+-- before its last one.
+abbrev pub claim_parts : Bool → Wanted × Wanted
+claim_parts true = (wanted.Output, wanted.Chain)
+claim_parts false = (wanted.Program, wanted.Program)
 
--- a chain has operands before its last one
-abbrev pub cat_parts : Bool → Wanted × Wanted
-cat_parts true = (wanted.Operands, wanted.Operand)
-cat_parts false = (wanted.Whatever, wanted.Whatever)
+abbrev pub chain_parts : Bool → Wanted × Wanted
+chain_parts true = (wanted.Operands, wanted.Operand)
+chain_parts false = (wanted.Program, wanted.Program)
 
--- what an operator's two parts are wanted as, where it is wanted as this
 abbrev pub parts_wanted : BinOp → Wanted → Wanted × Wanted
-parts_wanted binary.Add w = (wanted.Number, wanted.Number)
-parts_wanted binary.Sub w = (wanted.Number, wanted.Number)
-parts_wanted binary.Mul w = (wanted.Whatever, wanted.Whatever)
-parts_wanted binary.Div w = (wanted.Whatever, wanted.Whatever)
-parts_wanted binary.Mod w = (wanted.Whatever, wanted.Whatever)
-parts_wanted binary.Cat w = cat_parts (is_operands w)
-parts_wanted binary.Eq w = equal_parts (is_claim w)
-parts_wanted binary.NotEq w = (wanted.Number, wanted.Number)
-parts_wanted binary.Less w = (wanted.Number, wanted.Number)
-parts_wanted binary.LessEq w = (wanted.Number, wanted.Number)
-parts_wanted binary.Greater w = (wanted.Number, wanted.Number)
-parts_wanted binary.GreaterEq w = (wanted.Number, wanted.Number)
-parts_wanted binary.And w = (wanted.Truth, wanted.Truth)
-parts_wanted binary.Or w = (wanted.Truth, wanted.Truth)
-parts_wanted binary.Implies w = (wanted.Whatever, wanted.Whatever)
+parts_wanted binary.Cat w = chain_parts (is_operands w)
+parts_wanted binary.Eq w = claim_parts (is_claim w)
+parts_wanted op w = (wanted.Program, wanted.Program)
 
 abbrev pub binary_first : BinOp → Look → Look → ℕ → Wanted → Option ℕ
 binary_first op a b at w = let parts = parts_wanted op w in stands (operator_fits op w) at (earlier (a.first parts.0) (b.first parts.1))
 
 -- A node at its place. Its parts are looked at as what the node wants them to be.
 abbrev pub first_step : Procedure → Form-F (ℕ → Look) Look → ℕ → Wanted → Option ℕ
-first_step main (Form-F.Int n) at w = stands (is_number w) at None
+first_step main (Form-F.Int n) at w = stands (is_program w) at None
 first_step main (Form-F.Truth b) at w = stands (b && is_claim w) at None
 first_step main Form-F.MinInt at w = Some at
 first_step main Form-F.MaxInt at w = Some at
@@ -171,26 +146,22 @@ first_step main (Form-F.Word name) at w = stands (word_fits main name w) at None
 first_step main (Form-F.Old name) at w = Some at
 first_step main (Form-F.Dot name part) at w = Some at
 first_step main (Form-F.OldDot name part) at w = Some at
-first_step main (Form-F.Call facility name args) at w = call_first (is_remaining facility name args) args at w
-first_step main (Form-F.Initial name a) at w = earlier (Some at) (a.first wanted.Whatever)
-first_step main (Form-F.Not a) at w = stands (is_truth w) at (a.first wanted.Truth)
-first_step main (Form-F.Minus a) at w = stands (is_number w) at (a.first wanted.Number)
+first_step main (Form-F.Call facility name args) at w = stands (call_fits facility name w) at (all_first args)
+first_step main (Form-F.Initial name a) at w = earlier (Some at) (a.first wanted.Program)
+first_step main (Form-F.Not a) at w = stands (is_program w) at (a.first wanted.Program)
+first_step main (Form-F.Minus a) at w = stands (is_program w) at (a.first wanted.Program)
 first_step main (Form-F.Binary op a b) at w = binary_first op a b at w
 first_step main Form-F.Empty at w = stands (is_chain w) at None
-first_step main (Form-F.Single a) at w = stands (is_operand w && a.literal) at (a.first wanted.Whatever)
-first_step main (Form-F.Bars a) at w = earlier (Some at) (a.first wanted.Whatever)
+first_step main (Form-F.Single a) at w = stands (is_operand w && a.literal) at (a.first wanted.Program)
+first_step main (Form-F.Bars a) at w = earlier (Some at) (a.first wanted.Program)
 first_step main (Form-F.Tuple parts) at w = earlier (Some at) (all_first parts)
 
 abbrev pub literal_step : Form-F (ℕ → Look) Look → Bool
 literal_step (Form-F.Int n) = true
 literal_step f = false
 
-abbrev pub input_step : Procedure → Form-F (ℕ → Look) Look → Bool
-input_step main (Form-F.Word name) = same_bytes name (input_of main)
-input_step main f = false
-
 abbrev pub form_step : Procedure → Form-F (ℕ → Look) Look → ℕ → Look
-form_step main f at = record { literal = literal_step f; input = input_step main f; first = λ w. first_step main f at w }
+form_step main f at = record { literal = literal_step f; first = λ w. first_step main f at w }
 
 abbrev pub expr_step : Expr-F (ℕ → Look) Look → Look
 expr_step e = e.form e.at
@@ -251,29 +222,19 @@ claim_first main e = earlier (expr_first main e wanted.Claim) (counted e).over
 
 -- ---- statements
 
--- a variable of Main, and no field of it
-abbrev pub is_target : Procedure → Place → Bool
-is_target main p = no_name p.field && declares main p.base
+-- `Read` and `Write` with arguments of a program, whatever they are
+abbrev pub is_stream_call : Option (List ℕ) → List ℕ → Bool
+is_stream_call None name = same_bytes name (codes "Read") || same_bytes name (codes "Write")
+is_stream_call (Some facility) name = false
 
--- what is wanted as the first argument of Read and of Write, and as the second
-abbrev pub two_first : Procedure → List Expr → Wanted → Wanted → ℕ → Option ℕ
-two_first main (a ∷ b ∷ []) v w at = earlier (expr_first main a v) (expr_first main b w)
-two_first main args v w at = Some at
-
-abbrev pub by_name : Procedure → Bool → Bool → List Expr → ℕ → Option ℕ
-by_name main true write args at = two_first main args wanted.Variable wanted.Input at
-by_name main false true args at = two_first main args wanted.Number wanted.Output at
-by_name main false false args at = Some at
-
-abbrev pub call_statement_first : Procedure → Option (List ℕ) → List ℕ → List Expr → ℕ → Option ℕ
-call_statement_first main None name args at = by_name main (same_bytes name (codes "Read")) (same_bytes name (codes "Write")) args at
-call_statement_first main (Some facility) name args at = Some at
+abbrev pub args_first : Procedure → List Expr → Option ℕ
+args_first main args = all_first (map (look main) args)
 
 abbrev pub stmt_first_step : Procedure → Stmt-F (Option ℕ) → Option ℕ
 stmt_first_step main (Stmt-F.Swap at a b) = Some at
-stmt_first_step main (Stmt-F.Assign at p e) = stands (is_target main p) at (expr_first main e wanted.Number)
-stmt_first_step main (Stmt-F.Call at facility name args) = call_statement_first main facility name args at
-stmt_first_step main (Stmt-F.If at g a b) = earlier (expr_first main g wanted.Truth) (earlier (earliest a) (earliest b))
+stmt_first_step main (Stmt-F.Assign at p e) = stands (no_name p.field) at (expr_first main e wanted.Program)
+stmt_first_step main (Stmt-F.Call at facility name args) = stands (is_stream_call facility name) at (args_first main args)
+stmt_first_step main (Stmt-F.If at g a b) = earlier (expr_first main g wanted.Program) (earlier (earliest a) (earliest b))
 stmt_first_step main (Stmt-F.While at g places invariant metric body) = Some at
 
 abbrev pub stmt_first : Procedure → Stmt → Option ℕ
@@ -314,22 +275,14 @@ abbrev pub params_first : List Param → ℕ → Option ℕ
 params_first [] at = Some at
 params_first (p ∷ []) at = Some at
 params_first (p ∷ q ∷ ps) at =
-    earlier (stands (is_stream p (codes "In_Stream")) p.at None) (earlier (stands (is_stream q (codes "Out_Stream") && not (same_bytes q.name p.name)) q.at None) (third_first ps))
+    earlier (stands (is_stream p (codes "In_Stream")) p.at None) (earlier (stands (is_stream q (codes "Out_Stream")) q.at None) (third_first ps))
 
--- a stream, or one of these variables, has the name
-abbrev pub is_taken : Procedure → List (List ℕ × PType) → List ℕ → Bool
-is_taken main before name = same_bytes name (input_of main) || same_bytes name (output_of main) || is_among before name
-
--- A variable after these stands at its type, where that is not Integer or its name is taken.
-abbrev pub var_first : Procedure → List (List ℕ × PType) → List ℕ × PType → Option ℕ
-var_first main before v = stands (has_type v.1 (codes "Integer") && not (is_taken main before v.0)) v.1.at None
-
-abbrev pub vars_from : Procedure → Option ℕ → List (List ℕ × PType) → List (List ℕ × PType) → Option ℕ
-vars_from main o before [] = o
-vars_from main o before (v ∷ vs) = vars_from main (earlier o (var_first main before v)) (before ++ v ∷ []) vs
+-- A variable that is not an Integer stands at its type.
+abbrev pub var_first : List ℕ × PType → Option ℕ
+var_first v = stands (has_type v.1 (codes "Integer")) v.1.at None
 
 abbrev pub vars_first : Procedure → Option ℕ
-vars_first main = vars_from main None [] main.vars
+vars_first main = earliest (map var_first main.vars)
 
 abbrev pub ensures_first : Procedure → Option Expr → ℕ → Option ℕ
 ensures_first main None at = Some at

@@ -4,19 +4,15 @@ ghost use Rattle.std.specs.Prelude.{◌≡◌, map};
 ghost use Rattle.main_form.specs.Places as spec;
 ghost use Rattle.main_form.specs.Places.{expr_first, form_look, look};
 
-use crate::names::{declares, input_of, output_of, same_bytes};
+use crate::names::{input_of, output_of, same_bytes};
 use math_terms::Name;
 use res_ast::{BinOp, Expr, Form, Procedure};
 
-/// What an expression is wanted as: a number, a truth value, either of them, a variable, one of the streams, one operand of
-/// a claim or several, a whole chain of them, or a claim.
+/// What an expression is wanted as: one of a program, the output of a claim, one operand of a claim or several, a whole chain
+/// of them, or a claim.
 #[derive(Clone, Copy, Debug, PartialEq, Eq)]
 pub(crate) enum Wanted {
-    Number,
-    Truth,
-    Whatever,
-    Variable,
-    Input,
+    Program,
     Output,
     Operand,
     Operands,
@@ -25,20 +21,11 @@ pub(crate) enum Wanted {
 }
 
 impl Wanted {
-    fn is_number(self) -> bool
-        ensures { result ≡ spec.is_number self }
+    fn is_program(self) -> bool
+        ensures { result ≡ spec.is_program self }
     {
         match self {
-            Wanted::Number | Wanted::Whatever => true,
-            _ => false,
-        }
-    }
-
-    fn is_truth(self) -> bool
-        ensures { result ≡ spec.is_truth self }
-    {
-        match self {
-            Wanted::Truth | Wanted::Whatever => true,
+            Wanted::Program => true,
             _ => false,
         }
     }
@@ -109,9 +96,8 @@ fn word_fits(main: &Procedure, name: &[u8], wanted: Wanted) -> bool
     ensures { result ≡ spec.word_fits main.now name.now wanted }
 {
     match wanted {
-        Wanted::Number | Wanted::Whatever | Wanted::Variable => declares(main, name),
-        Wanted::Input => same_bytes(name, input_of(main)),
-        Wanted::Output => same_bytes(name, output_of(main)),
+        Wanted::Program => true,
+        Wanted::Output => same_bytes(name, output_of(main)) || !same_bytes(name, input_of(main)),
         _ => false,
     }
 }
@@ -121,17 +107,18 @@ fn operator_fits(op: BinOp, wanted: Wanted) -> bool
     ensures { result ≡ spec.operator_fits op wanted }
 {
     match op {
-        BinOp::Add | BinOp::Sub => wanted.is_number(),
         BinOp::Mul | BinOp::Div | BinOp::Mod | BinOp::Implies => false,
         BinOp::Cat => wanted.is_operands(),
-        BinOp::Eq => wanted.is_truth() || wanted.is_claim(),
-        BinOp::NotEq
+        BinOp::Eq => wanted.is_program() || wanted.is_claim(),
+        BinOp::Add
+        | BinOp::Sub
+        | BinOp::NotEq
         | BinOp::Less
         | BinOp::LessEq
         | BinOp::Greater
         | BinOp::GreaterEq
         | BinOp::And
-        | BinOp::Or => wanted.is_truth(),
+        | BinOp::Or => wanted.is_program(),
     }
 }
 
@@ -142,18 +129,7 @@ fn parts_wanted(op: BinOp, wanted: Wanted) -> (Wanted, Wanted)
     match op {
         BinOp::Eq if wanted.is_claim() => (Wanted::Output, Wanted::Chain),
         BinOp::Cat if wanted.is_operands() => (Wanted::Operands, Wanted::Operand),
-        BinOp::Mul | BinOp::Div | BinOp::Mod | BinOp::Implies | BinOp::Cat => {
-            (Wanted::Whatever, Wanted::Whatever)
-        }
-        BinOp::And | BinOp::Or => (Wanted::Truth, Wanted::Truth),
-        BinOp::Add
-        | BinOp::Sub
-        | BinOp::Eq
-        | BinOp::NotEq
-        | BinOp::Less
-        | BinOp::LessEq
-        | BinOp::Greater
-        | BinOp::GreaterEq => (Wanted::Number, Wanted::Number),
+        _ => (Wanted::Program, Wanted::Program),
     }
 }
 
@@ -170,7 +146,7 @@ fn form_first(main: &Procedure, form: &Form, at: u32, wanted: Wanted) -> Option<
     ensures { result ≡ (form_look main.now form.now at).first wanted }
 {
     match form {
-        Form::Int(_) => stands(wanted.is_number(), at, None),
+        Form::Int(_) => stands(wanted.is_program(), at, None),
         Form::Truth(b) => stands(*b && wanted.is_claim(), at, None),
         Form::MinInt => Some(at),
         Form::MaxInt => Some(at),
@@ -179,18 +155,17 @@ fn form_first(main: &Procedure, form: &Form, at: u32, wanted: Wanted) -> Option<
         Form::Dot(_, _) => Some(at),
         Form::OldDot(_, _) => Some(at),
         Form::Call(facility, name, args) => {
-            let args = args.as_slice();
-            let remaining = is_remaining(main, facility, name, args);
-            call_first(main, remaining, args, at, wanted)
+            let parts = all_first(main, args.as_slice());
+            stands(call_fits(facility, name, wanted), at, parts)
         }
-        Form::Initial(_, a) => earlier(Some(at), expr_first(main, a.get(), Wanted::Whatever)),
+        Form::Initial(_, a) => earlier(Some(at), expr_first(main, a.get(), Wanted::Program)),
         Form::Not(a) => {
-            let parts = expr_first(main, a.get(), Wanted::Truth);
-            stands(wanted.is_truth(), at, parts)
+            let parts = expr_first(main, a.get(), Wanted::Program);
+            stands(wanted.is_program(), at, parts)
         }
         Form::Minus(a) => {
-            let parts = expr_first(main, a.get(), Wanted::Number);
-            stands(wanted.is_number(), at, parts)
+            let parts = expr_first(main, a.get(), Wanted::Program);
+            stands(wanted.is_program(), at, parts)
         }
         Form::Binary(op, a, b) => {
             let parts = parts_wanted(*op, wanted);
@@ -200,10 +175,10 @@ fn form_first(main: &Procedure, form: &Form, at: u32, wanted: Wanted) -> Option<
         }
         Form::Empty => stands(wanted.is_chain(), at, None),
         Form::Single(a) => {
-            let parts = expr_first(main, a.get(), Wanted::Whatever);
+            let parts = expr_first(main, a.get(), Wanted::Program);
             stands(wanted.is_operand() && is_literal(main, a.get()), at, parts)
         }
-        Form::Bars(a) => earlier(Some(at), expr_first(main, a.get(), Wanted::Whatever)),
+        Form::Bars(a) => earlier(Some(at), expr_first(main, a.get(), Wanted::Program)),
         Form::Tuple(parts) => earlier(Some(at), all_first(main, parts.as_slice())),
     }
 }
@@ -217,53 +192,31 @@ fn is_literal(_main: &Procedure, e: &Expr) -> bool
     }
 }
 
-fn is_input(main: &Procedure, e: &Expr) -> bool
-    ensures { result ≡ (look main.now e.now).input }
-{
-    match &e.form {
-        Form::Word(name) => same_bytes(name.bytes(), input_of(main)),
-        _ => false,
-    }
-}
-
-// Whether a call is `Remaining` of the input.
-fn is_remaining(main: &Procedure, facility: &Option<Name>, name: &Name, args: &[Expr]) -> bool
-    ensures { result ≡ spec.is_remaining facility.now name.now (map (look main.now) args.now) }
+// Whether a call is `Remaining`.
+fn is_remaining(facility: &Option<Name>, name: &Name) -> bool
+    ensures { result ≡ spec.is_remaining facility.now name.now }
 {
     match facility {
         Some(_) => false,
-        None => match args {
-            [a] => same_bytes(name.bytes(), b"Remaining") && is_input(main, a),
-            _ => false,
-        },
+        None => same_bytes(name.bytes(), b"Remaining"),
     }
 }
 
-#[cycle(expression)]
-fn call_first(
-    main: &Procedure,
-    remaining: bool,
-    args: &[Expr],
-    at: u32,
-    wanted: Wanted,
-) -> Option<u32>
-    ensures { result ≡ spec.call_first remaining (map (look main.now) args.now) at wanted }
+// Whether a call is what is wanted.
+fn call_fits(facility: &Option<Name>, name: &Name, wanted: Wanted) -> bool
+    ensures { result ≡ spec.call_fits facility.now name.now wanted }
 {
-    if remaining {
-        stands(wanted.is_number(), at, None)
-    } else {
-        earlier(Some(at), all_first(main, args))
-    }
+    is_remaining(facility, name) && wanted.is_program()
 }
 
-// The first place of several expressions, which are wanted as whatever they are.
+/// The first place of several expressions of a program.
 #[cycle(expression)]
-fn all_first(main: &Procedure, exprs: &[Expr]) -> Option<u32>
+pub(crate) fn all_first(main: &Procedure, exprs: &[Expr]) -> Option<u32>
     ensures { result ≡ spec.all_first (map (look main.now) exprs.now) }
 {
     let mut first = None;
     for e in exprs {
-        first = earlier(first, expr_first(main, e, Wanted::Whatever));
+        first = earlier(first, expr_first(main, e, Wanted::Program));
     }
     first
 }

@@ -5,7 +5,7 @@ ghost use Rattle.main_form.specs.Places as spec;
 
 use crate::claims::claim_first;
 use crate::expressions::{earlier, stands};
-use crate::names::{input_of, is_among, output_of, same_bytes};
+use crate::names::same_bytes;
 use crate::statements::body_first;
 use math_terms::Name;
 use res_ast::{Expr, Heading, Mode, PType, Param, Procedure};
@@ -46,35 +46,25 @@ fn params_first(params: &[Param], at: u32) -> Option<u32>
         [_] => Some(at),
         [p, q, rest @ ..] => {
             let first = stands(is_stream(p, b"In_Stream"), p.at, None);
-            let fits = is_stream(q, b"Out_Stream") && !same_bytes(q.name.bytes(), p.name.bytes());
-            earlier(first, earlier(stands(fits, q.at, None), third_first(rest)))
+            let second = stands(is_stream(q, b"Out_Stream"), q.at, None);
+            earlier(first, earlier(second, third_first(rest)))
         }
     }
 }
 
-// Whether a stream has this name, or one of these variables.
-fn is_taken(main: &Procedure, before: &[(Name, PType)], name: &[u8]) -> bool
-    ensures { result ≡ spec.is_taken main.now before.now name.now }
+fn var_first(var: &(Name, PType)) -> Option<u32>
+    ensures { result ≡ spec.var_first var.now }
 {
-    same_bytes(name, input_of(main)) || same_bytes(name, output_of(main)) || is_among(before, name)
+    stands(has_type(&var.1, b"Integer"), var.1.at, None)
 }
 
-// A variable after these.
-fn var_first(main: &Procedure, before: &[(Name, PType)], var: &(Name, PType)) -> Option<u32>
-    ensures { result ≡ spec.var_first main.now before.now var.now }
-{
-    let fits = has_type(&var.1, b"Integer") && !is_taken(main, before, var.0.bytes());
-    stands(fits, var.1.at, None)
-}
-
-// The first type of a variable that is not Integer, or whose variable has a name that is taken.
+// The first type of a variable that is not Integer.
 fn vars_first(main: &Procedure) -> Option<u32>
     ensures { result ≡ spec.vars_first main.now }
 {
-    let vars = main.vars.as_slice();
     let mut first = None;
-    for k in 0..vars.len() {
-        first = earlier(first, var_first(main, &vars[..k], &vars[k]));
+    for var in main.vars.as_slice() {
+        first = earlier(first, var_first(var));
     }
     first
 }

@@ -2,10 +2,9 @@
 
 ghost use Rattle.std.specs.Prelude.{◌≡◌, ◌<◌, ◌^◌, length};
 ghost use Rattle.res_lexer.specs.Pieces.{same_bytes};
-ghost use Rattle.main_form.specs.Names.{declares, first_name, input_of, is_among, output_of, second_name, variable_of};
+ghost use Rattle.main_form.specs.Names.{first_name, input_of, output_of, second_name, variable_of};
 
-use math_terms::Name;
-use res_ast::{PType, Param, Procedure};
+use res_ast::{Param, Procedure};
 
 /// Whether these are the same bytes.
 pub(crate) fn same_bytes(a: &[u8], b: &[u8]) -> bool
@@ -44,25 +43,6 @@ pub(crate) fn output_of(main: &Procedure) -> &[u8]
     ensures { result.now ≡ output_of main.now }
 {
     second_of(main.heading.params.as_slice())
-}
-
-/// Whether one of the variables has the name.
-pub(crate) fn is_among(vars: &[(Name, PType)], name: &[u8]) -> bool
-    ensures { result ≡ is_among vars.now name.now }
-{
-    for var in vars {
-        if same_bytes(name, var.0.bytes()) {
-            return true;
-        }
-    }
-    false
-}
-
-/// Whether Main declares a variable of this name.
-pub(crate) fn declares(main: &Procedure, name: &[u8]) -> bool
-    ensures { result ≡ declares main.now name.now }
-{
-    is_among(main.vars.as_slice(), name)
 }
 
 /// The number of Main's first variable of this name, from 0.

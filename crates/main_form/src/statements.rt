@@ -2,52 +2,21 @@
 
 ghost use Rattle.std.specs.Prelude.{◌≡◌, map};
 ghost use Rattle.main_form.specs.Places as spec;
-ghost use Rattle.main_form.specs.Places.{body_first, is_target, stmt_first, stmt_room};
+ghost use Rattle.main_form.specs.Places.{body_first, stmt_first, stmt_room};
 
-use crate::expressions::{Wanted, earlier, expr_first, stands};
-use crate::names::{declares, same_bytes};
+use crate::expressions::{Wanted, all_first, earlier, expr_first, stands};
+use crate::names::same_bytes;
 use crate::room::Room;
 use math_terms::Name;
-use res_ast::{Expr, Place, Procedure, Stmt};
+use res_ast::{Procedure, Stmt};
 
-// Whether a place is a variable of Main.
-fn is_target(main: &Procedure, place: &Place) -> bool
-    ensures { result ≡ is_target main.now place.now }
+// Whether a call is `Read` or `Write`.
+fn is_stream_call(facility: &Option<Name>, name: &Name) -> bool
+    ensures { result ≡ spec.is_stream_call facility.now name.now }
 {
-    match &place.field {
-        None => declares(main, place.base.bytes()),
+    match facility {
         Some(_) => false,
-    }
-}
-
-// The two arguments of Read or Write, the one wanted as this and the other as that.
-fn two_first(main: &Procedure, args: &[Expr], v: Wanted, w: Wanted, at: u32) -> Option<u32>
-    ensures { result ≡ spec.two_first main.now args.now v w at }
-{
-    match args {
-        [a, b] => earlier(expr_first(main, a, v), expr_first(main, b, w)),
-        _ => Some(at),
-    }
-}
-
-// A call.
-fn call_first(
-    main: &Procedure,
-    facility: &Option<Name>,
-    name: &Name,
-    args: &[Expr],
-    at: u32,
-) -> Option<u32>
-    ensures { result ≡ spec.call_statement_first main.now facility.now name.now args.now at }
-{
-    if facility.is_some() {
-        Some(at)
-    } else if same_bytes(name.bytes(), b"Read") {
-        two_first(main, args, Wanted::Variable, Wanted::Input, at)
-    } else if same_bytes(name.bytes(), b"Write") {
-        two_first(main, args, Wanted::Number, Wanted::Output, at)
-    } else {
-        Some(at)
+        None => same_bytes(name.bytes(), b"Read") || same_bytes(name.bytes(), b"Write"),
     }
 }
 
@@ -59,18 +28,19 @@ fn stmt_first(main: &Procedure, x: &Stmt) -> Option<u32>
     match x {
         Stmt::Swap(at, _, _) => Some(*at),
         Stmt::Assign(at, place, e) => {
-            let parts = expr_first(main, e, Wanted::Number);
-            stands(is_target(main, place), *at, parts)
+            let parts = expr_first(main, e, Wanted::Program);
+            stands(place.field.is_none(), *at, parts)
         }
         Stmt::Call(at, facility, name, args) => {
-            call_first(main, facility, name, args.as_slice(), *at)
+            let parts = all_first(main, args.as_slice());
+            stands(is_stream_call(facility, name), *at, parts)
         }
         Stmt::If(_, guard, a, b) => {
             let blocks = earlier(
                 stmts_first(main, a.as_slice()),
                 stmts_first(main, b.as_slice()),
             );
-            earlier(expr_first(main, guard, Wanted::Truth), blocks)
+            earlier(expr_first(main, guard, Wanted::Program), blocks)
         }
         Stmt::While(at, _, _, _, _, _) => Some(*at),
     }

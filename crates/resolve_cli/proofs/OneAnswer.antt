@@ -12,14 +12,16 @@ use Rattle.stack_machine.specs.Machine.{State, after}
 use Rattle.main_form.specs.declared.module.Module.{Module}
 use Rattle.main_form.specs.declared.file.Shape.TheVariants as shape
 use Rattle.main_form.specs.Shape.{shape_of}
+use Rattle.component_checks.specs.declared.mistake.Mistake.{Mistake}
+use Rattle.component_checks.specs.Checks.{mistake_of}
 use Rattle.main_prover.specs.Proving.{NoneFirst, OneFirst}
 use Rattle.res_ast.specs.declared.component.Component.{Component}
 use Rattle.module_parser.specs.Spelling.{IsRefused, OneRefusal, OneSpelling, SpelledIsNotRefused, Spells}
 use Rattle.command_words.specs.Words.{Command, Other, Run, Word, command, command_of, read_words}
 use Rattle.resolve_cli.specs.declared.status.Status.{Status}
 use Rattle.resolve_cli.specs.declared.status.Status.TheVariants as status
-use Rattle.resolve_cli.specs.Answer.{Answers, FileAnswer, ModuleAnswer, RunAnswer, TextAnswer, bad_input, file, halted, image_of, lexical, long, no_file, no_reading, not_built, ran, short, spelled, spent, syntax_error, too_long, unbuilt, unproved}
-use Rattle.resolve_cli.specs.Texts.{lex_line, not_built_line, syntax_line, unproved_line}
+use Rattle.resolve_cli.specs.Answer.{Answers, ComponentsAnswer, FileAnswer, ModuleAnswer, RunAnswer, TextAnswer, bad_input, checked, file, halted, image_of, lexical, long, mistaken, no_file, no_reading, not_built, ran, short, spelled, spent, syntax_error, too_long, unbuilt, unproved}
+use Rattle.report_lines.specs.Lines.{lex_line, mistake_line, not_built_line, syntax_line, unproved_line}
 
 -- the laws of texts, as the functions of the crates below state them
 pub record TextLaws : Type 0 where
@@ -58,6 +60,16 @@ same_line n l at to e =
     let names : n ≡ l = cc in
     let places : at ≡ to = cc in
     ap (λ x. status.Refused (not_built_line x at)) names ∙ ap (λ x. status.Refused (not_built_line l x)) places
+
+no_module : (cs : List Component) (n : List ℕ) (at : ℕ) (m : Module) → shape_of cs ≡ shape.NotBuilt n at → shape_of cs ≡ shape.Module m → ⊥
+no_module cs n at m not of = let g : shape.NotBuilt n at ≡ shape.Module m = sym not ∙ of in absurd (cc)
+
+no_mistake : (cs : List Component) (e : Mistake) → mistake_of cs ≡ Some e → mistake_of cs ≡ None → ⊥
+no_mistake cs e wrong without = let g : Some e ≡ None = sym wrong ∙ without in absurd (cc)
+
+same_mistake : (m n : Module) (e f : Mistake) → m ≡ n → e ≡ f → status.Refused (mistake_line m.name e) ≡ status.Refused (mistake_line n.name f)
+same_mistake m n e f names mistakes =
+    ap (λ (x : Module). status.Refused (mistake_line x.name e)) names ∙ ap (λ x. status.Refused (mistake_line n.name x)) mistakes
 
 -- the laws that two refusals are one
 pub record RefusalLaws : Type 0 where
@@ -104,7 +116,7 @@ run_one m numbers steps s t o p (spent a reached goes is lined) (spent b reached
 module _ (laws : RefusalLaws) where
   module_one : (m : Module) (steps : ℕ) (input : List ℕ) (s t : Status) (o p : List ℕ) → ModuleAnswer m steps input s o → ModuleAnswer m steps input t p → Both s t o p
   module_one m steps input s t o p (unproved u first is nothing) (unproved v first' is' nothing') =
-      both_none s t _ _ o p is is' (ap (λ x. status.Refused (unproved_line m.name x)) (laws.one_first m u v first first')) nothing nothing'
+      both_none s t _ _ o p is is' (ap (λ x. status.Refused (unproved_line m.name x.number x.kind x.at)) (laws.one_first m u v first first')) nothing nothing'
   module_one m steps input s t o p (unproved u first is nothing) (too_long accepted many is' nothing') = absurd (laws.none_first m u first accepted)
   module_one m steps input s t o p (unproved u first is nothing) (bad_input built e fails is' nothing') = absurd (laws.none_first m u first built.accepted)
   module_one m steps input s t o p (unproved u first is nothing) (ran built numbers reads a) = absurd (laws.none_first m u first built.accepted)
@@ -123,33 +135,33 @@ module _ (laws : RefusalLaws) where
   module_one m steps input s t o p (ran built numbers reads a) (ran built' ns reads' b) =
       run_one m ns steps s t o p (subst (λ ks. RunAnswer m ks steps s o) (same_ok (reading input) numbers ns reads reads') a) b
 
+  components_one : (cs : List Component) (steps : ℕ) (input : List ℕ) (s t : Status) (o p : List ℕ) → ComponentsAnswer cs steps input s o → ComponentsAnswer cs steps input t p → Both s t o p
+  components_one cs steps input s t o p (unbuilt n at not is nothing) (unbuilt l to not' is' nothing') =
+      both_none s t _ _ o p is is' (same_line n l at to (sym not ∙ not')) nothing nothing'
+  components_one cs steps input s t o p (unbuilt n at not is nothing) (mistaken m e of wrong is' nothing') = absurd (no_module cs n at m not of)
+  components_one cs steps input s t o p (unbuilt n at not is nothing) (checked m of without a) = absurd (no_module cs n at m not of)
+  components_one cs steps input s t o p (mistaken m e of wrong is nothing) (unbuilt n at not is' nothing') = absurd (no_module cs n at m not of)
+  components_one cs steps input s t o p (mistaken m e of wrong is nothing) (mistaken n f of' wrong' is' nothing') =
+      both_none s t _ _ o p is is' (same_mistake m n e f (same_module m n (sym of ∙ of')) (same_some (mistake_of cs) e f wrong wrong')) nothing nothing'
+  components_one cs steps input s t o p (mistaken m e of wrong is nothing) (checked n of' without a) = absurd (no_mistake cs e wrong without)
+  components_one cs steps input s t o p (checked m of without a) (unbuilt n at not is nothing) = absurd (no_module cs n at m not of)
+  components_one cs steps input s t o p (checked m of without a) (mistaken n e of' wrong is nothing) = absurd (no_mistake cs e wrong without)
+  components_one cs steps input s t o p (checked m of without a) (checked n of' without' b) =
+      module_one n steps input s t o p (subst (λ k. ModuleAnswer k steps input s o) (same_module m n (sym of ∙ of')) a) b
+
   text_one : (name bytes : List ℕ) (steps : ℕ) (input : List ℕ) (s t : Status) (o p : List ℕ) → TextAnswer name bytes steps input s o → TextAnswer name bytes steps input t p → Both s t o p
   text_one name bytes steps input s t o p (lexical e refuses is nothing) (lexical f refuses' is' nothing') =
       both_none s t _ _ o p is is' (ap (λ x. status.Refused (lex_line name x)) (laws.one_refusal bytes e f refuses refuses')) nothing nothing'
   text_one name bytes steps input s t o p (lexical e refuses is nothing) (syntax_error f refused is' nothing') = absurd (laws.texts.read_or_refused bytes refused.tokens e refused.are refuses)
-  text_one name bytes steps input s t o p (lexical e refuses is nothing) (unbuilt cs n at spells not is' nothing') = absurd (laws.texts.read_or_refused bytes spells.tokens e spells.are refuses)
-  text_one name bytes steps input s t o p (lexical e refuses is nothing) (spelled cs m spells of a) = absurd (laws.texts.read_or_refused bytes spells.tokens e spells.are refuses)
+  text_one name bytes steps input s t o p (lexical e refuses is nothing) (spelled cs spells a) = absurd (laws.texts.read_or_refused bytes spells.tokens e spells.are refuses)
   text_one name bytes steps input s t o p (syntax_error f refused is nothing) (lexical e refuses is' nothing') = absurd (laws.texts.read_or_refused bytes refused.tokens e refused.are refuses)
   text_one name bytes steps input s t o p (syntax_error e refused is nothing) (syntax_error f refused' is' nothing') =
       both_none s t _ _ o p is is' (ap (λ x. status.Refused (syntax_line name x)) (laws.texts.one_syntax bytes e f refused refused')) nothing nothing'
-  text_one name bytes steps input s t o p (syntax_error e refused is nothing) (unbuilt cs n at spells not is' nothing') = absurd (laws.texts.spelled_not_refused bytes cs e spells refused)
-  text_one name bytes steps input s t o p (syntax_error e refused is nothing) (spelled cs m spells of a) = absurd (laws.texts.spelled_not_refused bytes cs e spells refused)
-  text_one name bytes steps input s t o p (unbuilt cs n at spells not is nothing) (lexical e refuses is' nothing') = absurd (laws.texts.read_or_refused bytes spells.tokens e spells.are refuses)
-  text_one name bytes steps input s t o p (unbuilt cs n at spells not is nothing) (syntax_error e refused is' nothing') = absurd (laws.texts.spelled_not_refused bytes cs e spells refused)
-  text_one name bytes steps input s t o p (unbuilt cs n at spells not is nothing) (unbuilt ds l to spells' not' is' nothing') =
-      let same : shape.NotBuilt n at ≡ shape.NotBuilt l to = sym not ∙ ap shape_of (laws.texts.one_spelling bytes cs ds spells spells') ∙ not' in
-      both_none s t _ _ o p is is' (same_line n l at to same) nothing nothing'
-  text_one name bytes steps input s t o p (unbuilt cs n at spells not is nothing) (spelled ds m spells' of a) =
-      let same : shape.NotBuilt n at ≡ shape.Module m = sym not ∙ ap shape_of (laws.texts.one_spelling bytes cs ds spells spells') ∙ of in
-      absurd (cc)
-  text_one name bytes steps input s t o p (spelled cs m spells of a) (lexical e refuses is' nothing') = absurd (laws.texts.read_or_refused bytes spells.tokens e spells.are refuses)
-  text_one name bytes steps input s t o p (spelled cs m spells of a) (syntax_error e refused is' nothing') = absurd (laws.texts.spelled_not_refused bytes cs e spells refused)
-  text_one name bytes steps input s t o p (spelled cs m spells of a) (unbuilt ds n at spells' not is' nothing') =
-      let same : shape.NotBuilt n at ≡ shape.Module m = sym not ∙ ap shape_of (laws.texts.one_spelling bytes ds cs spells' spells) ∙ of in
-      absurd (cc)
-  text_one name bytes steps input s t o p (spelled cs m spells of a) (spelled ds n spells' of' b) =
-      let same : shape.Module m ≡ shape.Module n = sym of ∙ ap shape_of (laws.texts.one_spelling bytes cs ds spells spells') ∙ of' in
-      module_one n steps input s t o p (subst (λ k. ModuleAnswer k steps input s o) (same_module m n same) a) b
+  text_one name bytes steps input s t o p (syntax_error e refused is nothing) (spelled cs spells a) = absurd (laws.texts.spelled_not_refused bytes cs e spells refused)
+  text_one name bytes steps input s t o p (spelled cs spells a) (lexical e refuses is' nothing') = absurd (laws.texts.read_or_refused bytes spells.tokens e spells.are refuses)
+  text_one name bytes steps input s t o p (spelled cs spells a) (syntax_error e refused is' nothing') = absurd (laws.texts.spelled_not_refused bytes cs e spells refused)
+  text_one name bytes steps input s t o p (spelled cs spells a) (spelled ds spells' b) =
+      components_one ds steps input s t o p (subst (λ xs. ComponentsAnswer xs steps input s o) (laws.texts.one_spelling bytes cs ds spells spells') a) b
 
   file_one : (name bytes : List ℕ) (steps : ℕ) (input : List ℕ) (s t : Status) (o p : List ℕ) → FileAnswer name bytes steps input s o → FileAnswer name bytes steps input t p → Both s t o p
   file_one name bytes steps input s t o p (long many is nothing) (long many' is' nothing') = both s t _ o p [] is is' nothing nothing'

@@ -21,6 +21,7 @@ use Rattle.main_form.specs.Formed.{IsForm}
 use Rattle.main_form.specs.Shape.{shape_of}
 use Rattle.res_ast.specs.declared.component.Component.{Component}
 use Rattle.module_parser.specs.Spelling.{Spells}
+use Rattle.component_checks.specs.Checks.{mistake_of}
 use Rattle.main_vcs.specs.Events.{EventsAreGood}
 use Rattle.main_vcs.specs.Linking.{main_of}
 use Rattle.main_vcs.specs.Soundness.{Allows, ConditionsAreSound, IsInput, IsLinkOf, IsRightRun}
@@ -76,11 +77,12 @@ module _ (laws : RunLaws) (m : Module) (form : IsForm m) (accepted : IsAccepted 
       let done = (simulated input).halts_only (never_wrong input is) n s reached over in
       subst (λ out. Allows m.claim out) done.4 (done_allows m.claim (run_of (linked_of m) (main_of m) input done.0) done.1 done.2 (run_right input is done.0))
 
-  pub right : EventsAreGood → (bytes : List ℕ) (cs : List Component) → Spells bytes cs → shape_of cs ≡ shape.Module m → IsRight bytes m
-  right good bytes cs spells of = record {
+  pub right : EventsAreGood → (bytes : List ℕ) (cs : List Component) → Spells bytes cs → shape_of cs ≡ shape.Module m → mistake_of cs ≡ None → IsRight bytes m
+  right good bytes cs spells of without = record {
     components = cs;
     spells = spells;
     is = of;
+    without_mistake = without;
     valid = laws.valid m accepted;
     never_stuck = goes_on;
     front = writes_front;

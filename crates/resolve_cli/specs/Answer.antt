@@ -19,6 +19,8 @@ use Rattle.stack_machine.specs.Refusal.{most_instructions}
 use Rattle.main_form.specs.declared.module.Module.{Module}
 use Rattle.main_form.specs.declared.file.Shape.TheVariants as shape
 use Rattle.main_form.specs.Shape.{shape_of}
+use Rattle.component_checks.specs.declared.mistake.Mistake.{Mistake}
+use Rattle.component_checks.specs.Checks.{mistake_of}
 use Rattle.main_vcs.specs.Linking.{main_of}
 use Rattle.main_vcs.specs.Walk.{conditions_of}
 use Rattle.main_prover.specs.declared.proving.Unproved.{Unproved}
@@ -27,7 +29,7 @@ use Rattle.command_words.specs.Words.{Word, Other, Run, command, read_words}
 use Rattle.resolve_cli.specs.declared.status.LinkError.TheVariants.{CodeTooLong}
 use Rattle.resolve_cli.specs.declared.status.Status.{Status}
 use Rattle.resolve_cli.specs.declared.status.Status.TheVariants as status
-use Rattle.resolve_cli.specs.Texts.{lex_line, not_built_line, syntax_line, unproved_line}
+use Rattle.report_lines.specs.Lines.{lex_line, mistake_line, not_built_line, syntax_line, unproved_line}
 
 -- A module as a linked program, and its code.
 abbrev pub linked_of : Module → Linked
@@ -52,18 +54,23 @@ pub data RunAnswer (m : Module) (numbers : List ℤ) (steps : ℕ) (s : Status) 
 
 -- What a module answers: its first unproved condition, that its code is too long, what is wrong with the input, or its run.
 pub data ModuleAnswer (m : Module) (steps : ℕ) (input : List ℕ) (s : Status) (out : List ℕ) : Type 0 where
-  unproved : (u : Unproved) → IsFirstUnproved m u → s ≡ status.Refused (unproved_line m.name u) → out ≡ [] → ModuleAnswer m steps input s out
+  unproved : (u : Unproved) → IsFirstUnproved m u → s ≡ status.Refused (unproved_line m.name u.number u.kind u.at) → out ≡ [] → ModuleAnswer m steps input s out
   too_long : IsAccepted m → most_instructions < length (image_of m).code → s ≡ status.LinkRefused CodeTooLong → out ≡ [] → ModuleAnswer m steps input s out
   bad_input : IsBuilt m → (e : InputError) → reading input ≡ Err e → s ≡ status.BadInput e → out ≡ [] → ModuleAnswer m steps input s out
   ran : IsBuilt m → (numbers : List ℤ) → reading input ≡ Ok numbers → RunAnswer m numbers steps s out → ModuleAnswer m steps input s out
 
--- What a file's text answers, under the name of the file: it has no tokens, its tokens are refused, or it spells components. These are
--- not of the form that is built, or are a module.
+-- What components answer: they are not of the form that is built; or they are a module, with a mistake in its names, arguments, sorts, types
+-- or modes, or without one.
+pub data ComponentsAnswer (cs : List Component) (steps : ℕ) (input : List ℕ) (s : Status) (out : List ℕ) : Type 0 where
+  unbuilt : (component : List ℕ) (at : ℕ) → shape_of cs ≡ shape.NotBuilt component at → s ≡ status.Refused (not_built_line component at) → out ≡ [] → ComponentsAnswer cs steps input s out
+  mistaken : (m : Module) (e : Mistake) → shape_of cs ≡ shape.Module m → mistake_of cs ≡ Some e → s ≡ status.Refused (mistake_line m.name e) → out ≡ [] → ComponentsAnswer cs steps input s out
+  checked : (m : Module) → shape_of cs ≡ shape.Module m → mistake_of cs ≡ None → ModuleAnswer m steps input s out → ComponentsAnswer cs steps input s out
+
+-- What a file's text answers, under the name of the file: it has no tokens, its tokens are refused, or it spells components.
 pub data TextAnswer (name bytes : List ℕ) (steps : ℕ) (input : List ℕ) (s : Status) (out : List ℕ) : Type 0 where
   lexical : (e : LexError) → Refuses bytes e → s ≡ status.Refused (lex_line name e) → out ≡ [] → TextAnswer name bytes steps input s out
   syntax_error : (e : SyntaxError) → IsRefused bytes e → s ≡ status.Refused (syntax_line name e) → out ≡ [] → TextAnswer name bytes steps input s out
-  unbuilt : (cs : List Component) (component : List ℕ) (at : ℕ) → Spells bytes cs → shape_of cs ≡ shape.NotBuilt component at → s ≡ status.Refused (not_built_line component at) → out ≡ [] → TextAnswer name bytes steps input s out
-  spelled : (cs : List Component) (m : Module) → Spells bytes cs → shape_of cs ≡ shape.Module m → ModuleAnswer m steps input s out → TextAnswer name bytes steps input s out
+  spelled : (cs : List Component) → Spells bytes cs → ComponentsAnswer cs steps input s out → TextAnswer name bytes steps input s out
 
 -- the most bytes of a component's file
 unfoldable pub most_component_bytes : ℕ

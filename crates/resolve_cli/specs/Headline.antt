@@ -1,5 +1,5 @@
 -- The headline: what an answer that is a run says of the text, of its code, and of the bytes.
-use Rattle.std.specs.Prelude.{◌≡◌, ◌≢◌, ℕ, ◌*◌, ℤ, ◌⊎◌, List, [], Some, Ok, IsSome}
+use Rattle.std.specs.Prelude.{◌≡◌, ◌≢◌, ℕ, ◌*◌, ℤ, ◌⊎◌, List, [], Some, None, Ok, IsSome}
 use Rattle.std.specs.List.{AllByRecursion}
 use Rattle.edge_io.specs.Files.{Files}
 use Rattle.edge_io.specs.Numbers.{reading}
@@ -13,6 +13,7 @@ use Rattle.stack_machine.specs.Simulation.{IsFront}
 use Rattle.main_form.specs.declared.module.Module.{Module}
 use Rattle.main_form.specs.declared.file.Shape.TheVariants as shape
 use Rattle.main_form.specs.Shape.{shape_of}
+use Rattle.component_checks.specs.Checks.{mistake_of}
 use Rattle.main_vcs.specs.Events.{IsGood}
 use Rattle.main_vcs.specs.Linking.{main_of}
 use Rattle.main_vcs.specs.Soundness.{Allows, IsInput, IsValidCondition}
@@ -26,13 +27,15 @@ use Rattle.resolve_cli.specs.Answer.{Answers, image_of, linked_of}
 abbrev pub meaning_of : Module → List ℤ → ℕ → Trace
 meaning_of m input fuel = trace_of (linked_of m) (main_of m) input fuel
 
--- The text spells components, and these are a module whose conditions are all valid. On every input of at most 65,535 numbers of 64 bits the machine is never
--- stuck on its image; after n steps it has written a front of what the module means with fuel 2 * n; wherever it halts it has written
--- what Main allows; and all events of what the module means are good.
+-- The text spells components, and these are a module without a mistake in its names, arguments, sorts, types and modes, whose conditions are
+-- all valid. On every input of at most 65,535 numbers of 64 bits the machine is never stuck on its image; after n steps it has written a
+-- front of what the module means with fuel 2 * n; wherever it halts it has written what Main allows; and all events of what the module means
+-- are good.
 pub record IsRight (bytes : List ℕ) (m : Module) : Type 0 where
   pub components : List Component
   pub spells : Spells bytes components
   pub is : shape_of components ≡ shape.Module m
+  pub without_mistake : mistake_of components ≡ None
   pub valid : AllByRecursion IsValidCondition (conditions_of m)
   pub never_stuck : (input : List ℤ) → IsInput input → (n : ℕ) → IsSome (after (image_of m) input n)
   pub front : (input : List ℤ) → IsInput input → (n : ℕ) (s : State) → after (image_of m) input n ≡ Some s → IsFront s.output (meaning_of m input (2 * n)).output

@@ -21,9 +21,10 @@ pub fn one_answer()
     none_first();
 }
 
-/// Where words are answered as `Done`, or as `StepsSpent`, they run a file whose text spells components that are a module with valid conditions. On every input the
-/// machine is never stuck on its code and writes what the module means and what Main claims, and all events are good. The bytes are the lines of what
-/// the machine has written on the numbers of this input after so many instructions as the words allow: at `Done` the run is over, and else it goes on.
+/// Where words are answered as `Done`, or as `StepsSpent`, they run a file whose text spells components that are a module without a
+/// mistake, with valid conditions. On every input the machine is never stuck on its code and writes what the module means and what Main
+/// claims, and all events are good. The bytes are the lines of what the machine has written on the numbers of this input after so many
+/// instructions as the words allow: at `Done` the run is over, and else it goes on.
 pub fn headline()
     ensures { Headline }
 {

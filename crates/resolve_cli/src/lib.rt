@@ -5,7 +5,6 @@ pub mod answer_laws;
 mod notes;
 mod running;
 mod status;
-mod texts;
 mod top;
 
 pub use status::{LinkError, Status};

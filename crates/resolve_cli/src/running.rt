@@ -1,27 +1,28 @@
 //! Running a module: its conditions proved, its image made, the input read, the machine started.
 
-ghost use Rattle.std.specs.Prelude.{◌≡◌, ◌≤◌, ◌⊎◌, ℕ, ℤ, List, IsSome, MatchResult};
+ghost use Rattle.std.specs.Prelude.{◌≡◌, ◌≤◌, ◌⊎◌, ℕ, ℤ, List, IfOk, IsSome, MatchResult};
 ghost use Rattle.edge_io.specs.Numbers.{HadLeft};
 ghost use Rattle.stack_machine.specs.Machine.{after};
 ghost use Rattle.stack_machine.specs.Runs.{HasMain, NeverStuck};
 ghost use Rattle.main_form.specs.declared.module.Module.{Module};
 ghost use Rattle.main_form.specs.Formed.{IsForm};
 ghost use Rattle.main_vcs.specs.Soundness.{IsInput};
+ghost use Rattle.report_lines.specs.Lines as lines;
 ghost use Rattle.resolve_cli.specs.Answer.{IsAccepted, IsBuilt, ModuleAnswer, RunAnswer, image_of};
 ghost use Rattle.resolve_cli.specs.Headline.{IsRunEnd};
 ghost use Rattle.resolve_cli.specs.Resolves.{Answered, Counted, IsCut, Left, SomeAnswer};
 
 use crate::status::{LinkError, Status};
-use crate::texts::unproved_line;
 use edge_io::laws::unchanged;
 use edge_io::numbers::{InputError, read_numbers};
 use edge_io::sink::Sink;
 use edge_io::source::Source;
 use main_form::Module;
 use main_prover::laws::{modules_are_formed, proved_is_valid};
-use main_prover::{first_unproved, link_main};
+use main_prover::{Unproved, first_unproved, link_main};
 use main_vcs::laws::conditions_are_sound;
 use math_terms::{Name, NoMemory};
+use report_lines::unproved_line;
 use stack_machine::laws::{code_simulates, halted_stays, output_grows};
 use stack_machine::{CodeError, Image, Stop, compile, run};
 use std::alloc::Global;
@@ -118,6 +119,13 @@ fn run_accepted<S: Source, K: Sink>(
     }
 }
 
+// The line of a module's first condition that is not proved.
+fn line_of(alloc: Global, m: &Module, first: Unproved) -> Result<Name, NoMemory>
+    ensures { IfOk result (λ line. line ≡ lines.unproved_line m.now.name first.number first.kind first.at) }
+{
+    unproved_line(alloc, m.name.bytes(), first.number, first.kind, first.at)
+}
+
 /// Carries out a module: the line of its first unproved condition, or else its run on the input.
 pub fn run_module<S: Source, K: Sink>(
     alloc: Global,
@@ -136,7 +144,7 @@ pub fn run_module<S: Source, K: Sink>(
     unchanged();
     match first_unproved(alloc, m) {
         Ok(None) => run_accepted(alloc, m, steps, input, out),
-        Ok(Some(unproved)) => refused(unproved_line(alloc, m.name.bytes(), unproved)),
+        Ok(Some(first)) => refused(line_of(alloc, m, first)),
         Err(_) => Status::NoMemory,
     }
 }

@@ -4,7 +4,11 @@ ghost use Rattle.std.specs.Prelude.{◌≡◌, ◌≤◌, ◌<◌, ◌^◌, List
 ghost use Rattle.edge_io.specs.Files.{Files, SameFiles};
 ghost use Rattle.module_parser.specs.Spelling.{RefusesOrNoMemory, Spells};
 ghost use Rattle.command_words.specs.Words.{Run, Word, command};
-ghost use Rattle.resolve_cli.specs.Answer.{FileAnswer, TextAnswer, most_component_bytes};
+ghost use Rattle.component_checks.specs.Checks.{mistake_of};
+ghost use Rattle.main_form.specs.declared.file.Shape.TheVariants as shape;
+ghost use Rattle.main_form.specs.Formed.{IsForm};
+ghost use Rattle.main_form.specs.Shape.{shape_of};
+ghost use Rattle.resolve_cli.specs.Answer.{ComponentsAnswer, FileAnswer, TextAnswer, most_component_bytes};
 ghost use Rattle.resolve_cli.specs.Headline.{Headline};
 ghost use Rattle.resolve_cli.specs.Resolves.{Counted, DidAnswer, IsTextRefusal, Left, Noted, SomeAnswer};
 ghost use Rattle.resolve_cli.specs.Texts.{note_of};
@@ -13,30 +17,57 @@ use crate::answer_laws::headline;
 use crate::notes::write_note;
 use crate::running::{refused, run_module};
 use crate::status::Status;
-use crate::texts::{lex_line, not_built_line, syntax_line};
 use command_words::{Command, read_command};
+use component_checks::mistake_of;
 use edge_io::laws::unchanged;
 use edge_io::shelf::{Shelf, ShelfError};
 use edge_io::sink::Sink;
 use edge_io::source::Source;
-use main_form::{Shape, built_is_formed, main_module};
+use main_form::{Module, Shape, built_is_formed, main_module};
 use math_terms::{Name, NoMemory};
 use module_parser::{ParseError, parse};
+use report_lines::{lex_line, mistake_line, not_built_line, syntax_line};
 use res_ast::Component;
+use sqlite_items::Items;
 use std::alloc::Global;
 
 // The most bytes of a component's file.
 const MOST_BYTES: usize = 1048576;
 
-// Carries out the components that a text spells.
-fn run_components<S: Source, K: Sink>(
+// Carries out components that are a module.
+fn run_formed<S: Source, K: Sink>(
     alloc: Global,
-    components: &[Component],
+    components: Items<Component>,
+    m: &Module,
     steps: u64,
     input: &mut S,
     out: &mut K,
 ) -> Status
-    ensures answered { (name bytes : List ℕ) → Spells bytes components.now → SomeAnswer (TextAnswer name bytes steps) (S.left input.old) result (K.held out.old) (K.held out.new) }
+    requires form { IsForm m.now }
+    requires is { shape_of components ≡ shape.Module m.now }
+    ensures answered { SomeAnswer (ComponentsAnswer components steps) (S.left input.old) result (K.held out.old) (K.held out.new) }
+    ensures left { Left result (S.left input.old) (S.left input.new) (S.faults input.old) (S.faults input.new) }
+    ensures out_counted { Counted Status.SinkFault result (K.faults out.old) (K.faults out.new) }
+    ensures input_counted { Counted Status.SourceFault result (S.faults input.old) (S.faults input.new) }
+    ensures no_shelf { result ≡ Status.ShelfFault → ⊥ }
+{
+    unchanged();
+    match mistake_of(alloc, components) {
+        Ok(None) => run_module(alloc, m, steps, input, out),
+        Ok(Some(mistake)) => refused(mistake_line(alloc, m.name.bytes(), &mistake)),
+        Err(_) => Status::NoMemory,
+    }
+}
+
+// Carries out the components that a text spells.
+fn run_components<S: Source, K: Sink>(
+    alloc: Global,
+    components: Items<Component>,
+    steps: u64,
+    input: &mut S,
+    out: &mut K,
+) -> Status
+    ensures answered { SomeAnswer (ComponentsAnswer components steps) (S.left input.old) result (K.held out.old) (K.held out.new) }
     ensures left { Left result (S.left input.old) (S.left input.new) (S.faults input.old) (S.faults input.new) }
     ensures out_counted { Counted Status.SinkFault result (K.faults out.old) (K.faults out.new) }
     ensures input_counted { Counted Status.SourceFault result (S.faults input.old) (S.faults input.new) }
@@ -44,8 +75,8 @@ fn run_components<S: Source, K: Sink>(
 {
     unchanged();
     built_is_formed();
-    match main_module(alloc, components) {
-        Ok(Shape::Module(m)) => run_module(alloc, &m, steps, input, out),
+    match main_module(alloc, components.as_slice()) {
+        Ok(Shape::Module(m)) => run_formed(alloc, components, &m, steps, input, out),
         Ok(Shape::NotBuilt { name, at }) => refused(not_built_line(alloc, name.bytes(), at)),
         Err(_) => Status::NoMemory,
     }
@@ -82,7 +113,7 @@ fn run_text<S: Source, K: Sink>(
 {
     unchanged();
     match parse(alloc, bytes) {
-        Ok(components) => run_components(alloc, components.as_slice(), steps, input, out),
+        Ok(components) => run_components(alloc, components, steps, input, out),
         Err(e) => refuse_text(alloc, file, e),
     }
 }
@@ -188,8 +219,8 @@ fn answer<S: Source, K: Sink, F: Shelf>(
 }
 
 /// Carries out the command that the words say, those after the program's name, and answers how it ended. The one file
-/// of `run` is read from the shelf; the conditions of its module are proved; then the input is read to its end, and the module's code is
-/// run on its numbers, for at most so many instructions as the words allow, which writes on `out`. `notes` gets the line of the status.
+/// of `run` is read from the shelf; its module is looked at for mistakes, and its conditions are proved; then the input is read to its
+/// end, and the module's code is run on its numbers, for at most so many instructions as the words allow, which writes on `out`. `notes` gets the line of the status.
 /// What an answer says of a run is the clause `right`: at `Done` the text of the file is right, the run is over, and what it has written is
 /// what Main claims.
 pub fn resolve<S: Source, K: Sink, N: Sink, F: Shelf>(

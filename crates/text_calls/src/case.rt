@@ -1,9 +1,10 @@
 //! The answer of a case. Its word is `tokens`, `identifier` (whether the text is one, and how many bytes of it are), `reserved`, `text` and
 //! `part` (whether its tokens are a file, or begin with an expression of so many tokens), `expression`, `parse`, `print` (the canonical texts
-//! of what the text spells), or `table` (whom the last of its components names).
+//! of what the text spells), `table` (whom the last of its components names), or `check` (the first mistake of each of its components).
 
 ghost use Rattle.std.specs.Prelude.{◌≤◌, length};
 
+use crate::checks::say_checks;
 use crate::deciphering::deciphered;
 use crate::saying::{put_lines, say_fault, say_lex_error, say_syntax_error, say_tokens};
 use crate::tables::say_table;
@@ -79,6 +80,7 @@ fn say_components(
     match word {
         "print" => say_printed(alloc, said, components),
         "table" => say_table(alloc, said, components),
+        "check" => say_checks(alloc, said, components),
         _ => say_trees(said, components),
     }
 }
@@ -125,7 +127,7 @@ fn say_answer(alloc: Global, said: &mut String, word: &str, bytes: &[u8]) -> Res
             write!(said, " {is}")?;
             Ok(())
         }
-        "parse" | "print" | "table" => say_parsed(alloc, said, word, bytes),
+        "parse" | "print" | "table" | "check" => say_parsed(alloc, said, word, bytes),
         _ => match tokens(alloc, bytes) {
             Ok(tokens) => say_of_tokens(alloc, said, word, &tokens, bytes.len() as u32),
             Err(e) => say_lex_error(said, &e),

@@ -3,6 +3,7 @@
 #![tactic(auto)]
 
 mod case;
+mod checks;
 mod deciphering;
 mod saying;
 mod tables;

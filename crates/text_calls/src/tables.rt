@@ -6,7 +6,8 @@ use module_table::{NameError, Table, name_of};
 use res_ast::{Component, TryCopy};
 use std::alloc::Global;
 
-fn say_name_error(said: &mut String, e: &NameError) -> Result<(), Trouble> {
+/// Why a table or a list of names is not answered.
+pub fn say_name_error(said: &mut String, e: &NameError) -> Result<(), Trouble> {
     match e {
         NameError::Duplicate { name } => {
             write!(said, " Duplicate")?;
@@ -24,8 +25,8 @@ fn say_name_error(said: &mut String, e: &NameError) -> Result<(), Trouble> {
     }
 }
 
-// The table of copies of the components, in their order.
-fn filled(alloc: Global, components: &[Component]) -> Result<Table, NameError> {
+/// The table of copies of the components, in their order.
+pub fn filled(alloc: Global, components: &[Component]) -> Result<Table, NameError> {
     let mut table = Table::new(alloc);
     for component in components {
         let component = component.copy(alloc)?;

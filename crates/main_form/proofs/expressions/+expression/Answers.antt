@@ -1,5 +1,5 @@
 use Rattle.std.proofs.Common.{◌∙◌, ap, map, Some}
-use Rattle.main_form.specs.Places.{all_first, call_first, earlier, is_remaining, look}
+use Rattle.main_form.specs.Places.{all_first, call_fits, earlier, look, stands}
 use Rattle.main_form.proofs.Opened.{call_opened, tuple_opened}
 use Rattle.main_form.proofs.expressions.+expression.Goals as goal
 
@@ -11,15 +11,14 @@ form_first-returns-in-Call t c =
     let facility = c.in-Call.facility in
     let name = c.in-Call.name in
     let args = c.in-Call.args in
-    let of = c.as_slice-args.ensures in
-    c.call_first.ensures
-    ∙ ap (λ b. call_first b (map (look main) c.as_slice-args.result.now) at w) c.is_remaining-remaining.ensures
-    ∙ ap (λ xs. let looks = map (look main) xs in call_first (is_remaining facility name looks) looks at w) of
+    c.stands-in-Call.ensures
+    ∙ ap (λ b. stands b at c.all_first-parts.result) c.call_fits.ensures
+    ∙ ap (stands (call_fits facility name w) at) (c.all_first-parts.ensures ∙ ap (λ ps. all_first (map (look main) ps)) c.as_slice.ensures)
     ∙ call_opened main c.args.form.now facility name args at w c.in-Call.is
 
 pub form_first-returns-in-Tuple : goal.form_first-returns-in-Tuple
 form_first-returns-in-Tuple t c =
     let main = c.args.main.now in
     c.earlier-in-Tuple.ensures
-    ∙ ap (earlier (Some c.args.at)) (c.all_first.ensures ∙ ap (λ ps. all_first (map (look main) ps)) c.as_slice.ensures)
+    ∙ ap (earlier (Some c.args.at)) (c.all_first.ensures ∙ ap (λ ps. all_first (map (look main) ps)) c.as_slice-in-Tuple.ensures)
     ∙ tuple_opened main c.args.form.now c.in-Tuple.parts c.args.at c.args.wanted c.in-Tuple.is

@@ -7,7 +7,7 @@ use Rattle.main_form.proofs.statements.+statement.Goals as goal
 pub stmt_first-returns-in-If : goal.stmt_first-returns-in-If
 stmt_first-returns-in-If t c =
     let main = c.args.main.now in
-    let guard = expr_first main c.in-If.guard wanted.Truth in
+    let guard = expr_first main c.in-If.guard wanted.Program in
     let a = c.in-If.a in
     let b = c.in-If.b in
     let first = c.stmts_first.ensures ∙ ap (λ xs. earliest (map (stmt_first main) xs)) c.as_slice-in-If.ensures in

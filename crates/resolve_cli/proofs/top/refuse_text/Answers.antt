@@ -4,7 +4,7 @@ use Rattle.module_parser.specs.Spelling.{RefusesOrNoMemory}
 use Rattle.resolve_cli.specs.declared.status.Status.TheVariants as status
 use Rattle.resolve_cli.specs.Answer as stage
 use Rattle.resolve_cli.specs.Answer.{TextAnswer}
-use Rattle.resolve_cli.specs.Texts.{lex_line, syntax_line}
+use Rattle.report_lines.specs.Lines.{lex_line, syntax_line}
 use Rattle.resolve_cli.proofs.Stages.{nothing_known, refused_answered}
 use Rattle.resolve_cli.proofs.top.refuse_text.Goals as goal
 
